@@ -1,0 +1,134 @@
+-- Words by slot and column: a store, two stores in one column, and from columns to the words of a state.
+use Prim.Native.Nat.{ℕ, zero, suc, _+_, _-_, _*_, _≤_, _<_}
+use mathlib.Core.Path.{_≡_, refl, sym, ap, ap₂, _∙_, subst}
+use mathlib.Core.Logic.{_≢_}
+use mathlib.Core.List.{List, [], _∷_, _++_}
+use lib.ListN.{length, take, drop, getD, set, length-set, take-append-drop, length-drop}
+use lib.Seq.{getD-set-same, getD-set-other, take-set-le, ext-getD, drop-drop, length-take-le}
+use native.Mathlib.Nat.{mul-le-mul-right, zero-add}
+use native.Mathlib.Omega.{arith}
+use Rattle.arena.specs.Mixed.{Mix}
+use Rattle.model.specs.Arena.{State, recordOf, header, encode, records, slots-of}
+use Rattle.model.specs.Cells.{recordAt, Cell, cellAt, putAt}
+use Rattle.model.specs.Passes.{decode, Passes}
+use Rattle.arena.proofs.Places.{word-rec, here, length-encode}
+use Rattle.model.proofs.Builds.{recs-build}
+use Rattle.model.proofs.Records.{rec-encode, length-record}
+use Rattle.model.proofs.Tests.{Test, hit, miss, test, Same, same, other, same?}
+
+index-apart : (W s z c d : ℕ) → c < W → d < W → 8 + s * W + c ≡ 8 + z * W + d → (s ≡ z) × (c ≡ d)
+index-apart W s z c d l k e = elim (test (suc s) z) [
+  | hit f p ↦ absurd (omega (arith, mul-le-mul-right W p))
+  | miss f p ↦ elim (test (suc z) s) [
+    | hit g q ↦ absurd (omega (arith, mul-le-mul-right W q))
+    | miss g q ↦ let h : s ≡ z = omega arith in (h, omega (arith, rw h at e))
+  ]
+]
+
+pub cell-same : (M : ℕ) (w : List ℕ) (s c v : ℕ) → 8 + s * (4 + 2 * M) + c < length w → cellAt M (putAt M w s c v) s c ≡ v
+unfolding cellAt putAt
+cell-same M w s c v l = getD-set-same w (8 + s * (4 + 2 * M) + c) v 0 l
+
+pub cell-other : (M : ℕ) (w : List ℕ) (s c v z d : ℕ) → c < 4 + 2 * M → d < 4 + 2 * M → (s ≡ z → c ≡ d → ⊥) → cellAt M (putAt M w s c v) z d ≡ cellAt M w z d
+unfolding cellAt putAt
+cell-other M w s c v z d l k ne =
+    getD-set-other w (8 + s * (4 + 2 * M) + c) (8 + z * (4 + 2 * M) + d) v 0
+    (λ e. let p = index-apart (4 + 2 * M) s z c d l k (sym e) in ne (p .0) (p .1))
+
+pub put-size : (M : ℕ) (w : List ℕ) (s c v : ℕ) → length (putAt M w s c v) ≡ length w
+unfolding putAt
+put-size M w s c v = length-set w (8 + s * (4 + 2 * M) + c) v
+
+pub put-front : (M : ℕ) (w : List ℕ) (s c v : ℕ) → take 8 (putAt M w s c v) ≡ take 8 w
+unfolding putAt
+put-front M w s c v = take-set-le 8 w (8 + s * (4 + 2 * M) + c) v (omega arith)
+
+pub in-words : (M n : ℕ) (w : List ℕ) → length w ≡ 8 + n * (4 + 2 * M) → (s c : ℕ) → s < n → c < 4 + 2 * M → 8 + s * (4 + 2 * M) + c < length w
+in-words M n w e s c l k = omega (arith, mul-le-mul-right (4 + 2 * M) l)
+
+-- what two stores in column k, at slots x and y, leave: the column is as f says, where f and g differ there at x and y alone
+module _ (M n : ℕ) (f g : ℕ → List ℕ) (w : List ℕ) (size : length w ≡ 8 + n * (4 + 2 * M)) (k x v y u : ℕ)
+    (kw : k < 4 + 2 * M) (xn : x < n) (yn : y < n) where
+  abbrev pub two : List ℕ
+  two = putAt M (putAt M w x k v) y k u
+
+  pub two-size : length two ≡ 8 + n * (4 + 2 * M)
+  two-size = put-size M (putAt M w x k v) y k u ∙ put-size M w x k v ∙ size
+
+  pub two-column : (s d : ℕ) → d < 4 + 2 * M → d ≢ k → cellAt M two s d ≡ cellAt M w s d
+  two-column s d l ne = cell-other M (putAt M w x k v) y k u s d kw l (λ p q. ne (sym q)) ∙ cell-other M w x k v s d kw l (λ p q. ne (sym q))
+
+  module _ (ne : x ≢ y) (old : (s : ℕ) → s < n → cellAt M w s k ≡ getD (g s) k 0)
+      (alike : (s : ℕ) → s < n → s ≢ x → s ≢ y → getD (f s) k 0 ≡ getD (g s) k 0)
+      (at-x : getD (f x) k 0 ≡ v) (at-y : getD (f y) k 0 ≡ u) where
+    pub column : (s : ℕ) → s < n → cellAt M two s k ≡ getD (f s) k 0
+    column s l = elim (same? s y) [
+      | same e p ↦ rw p (cell-same M (putAt M w x k v) y k u (rw (put-size M w x k v) (in-words M n w size y k yn kw)) ∙ sym at-y)
+      | other e p ↦ cell-other M (putAt M w x k v) y k u s k kw kw (λ q r. p (sym q)) ∙ elim (same? s x) [
+        | same i q ↦ rw q (cell-same M w x k v (in-words M n w size x k xn kw) ∙ sym at-x)
+        | other i q ↦ cell-other M w x k v s k kw kw (λ r t. q (sym r)) ∙ old s l ∙ sym (alike s l q p)
+      ]
+    ]
+
+    -- the columns so far are those from lo to k; now k too
+    pub step-up : (lo hi hi′ : ℕ) → lo ≤ k → hi ≡ k → hi′ ≡ suc k → Mix M n f g lo hi w → Mix M n f g lo hi′ two
+    step-up lo hi hi′ lk e e′ m = record {
+      size = two-size;
+      new = λ s c l j p q. elim (test (suc c) k) [
+        | hit t r ↦ two-column s c j (λ z. omega arith) ∙ m .new s c l j p (omega arith)
+        | miss t r ↦ let z : c ≡ k = omega arith in rw z (column s l)
+      ];
+      below = λ s c l j p. two-column s c j (λ z. omega arith) ∙ m .below s c l j p;
+      above = λ s c l j p. two-column s c j (λ z. omega arith) ∙ m .above s c l j (omega arith);
+    }
+
+    -- the columns so far are those from k + 1 to hi; now k too
+    pub step-down : (lo hi : ℕ) → k < hi → lo ≡ suc k → Mix M n f g lo hi w → Mix M n f g k hi two
+    step-down lo hi kh e m = record {
+      size = two-size;
+      new = λ s c l j p q. elim (test (suc k) c) [
+        | hit t r ↦ two-column s c j (λ z. omega arith) ∙ m .new s c l j (omega arith) q
+        | miss t r ↦ let z : c ≡ k = omega arith in rw z (column s l)
+      ];
+      below = λ s c l j p. two-column s c j (λ z. omega arith) ∙ m .below s c l j (omega arith);
+      above = λ s c l j p. two-column s c j (λ z. omega arith) ∙ m .above s c l j p;
+    }
+
+-- a column in which f and g are the same
+pub skip-down : (M n : ℕ) (f g : ℕ → List ℕ) (w : List ℕ) (k lo hi : ℕ) → k < 4 + 2 * M → lo ≡ suc k → k < hi → ((s : ℕ) → s < n → getD (f s) k 0 ≡ getD (g s) k 0)
+    → Mix M n f g lo hi w → Mix M n f g k hi w
+skip-down M n f g w k lo hi kw e kh alike m = record {
+  size = m .size;
+  new = λ s c l j p q. elim (test (suc k) c) [
+    | hit t r ↦ m .new s c l j (omega arith) q
+    | miss t r ↦ let z : c ≡ k = omega arith in rw z (m .below s k l kw (omega arith) ∙ sym (alike s l))
+  ];
+  below = λ s c l j p. m .below s c l j (omega arith);
+  above = λ s c l j p. m .above s c l j p;
+}
+
+-- ---- from a state, to a state ----
+pub cell-is : (w : List ℕ) → Passes w → (s c : ℕ) → s < slots-of (decode w) → c < 4 + 2 * decode w .levels → cellAt (decode w .levels) w s c ≡ getD (recordOf (decode w) s) c 0
+unfolding cellAt
+cell-is w p s c l k = word-rec (decode w .levels) w s c k ∙ ap (λ (R : List ℕ). getD R c 0) (here w p (decode w .levels) s ∙ rec-encode (decode w) s l)
+
+pub mix-start : (w : List ℕ) → Passes w → (f : ℕ → List ℕ) (k : ℕ) → Mix (decode w .levels) (slots-of (decode w)) f (recordOf (decode w)) k k w
+mix-start w p f k = record {
+  size = ap length (p .words) ∙ length-encode (decode w);
+  new = λ s c l j a b. absurd (omega arith);
+  below = λ s c l j a. cell-is w p s c l j;
+  above = λ s c l j a. cell-is w p s c l j;
+}
+
+pub mix-end : (T : State) (g : ℕ → List ℕ) (w : List ℕ) → Mix (T .levels) (slots-of T) (recordOf T) g 0 (4 + 2 * T .levels) w → take 8 w ≡ header T → w ≡ encode T
+unfolding cellAt
+mix-end T g w m e =
+    let W = 4 + 2 * T .levels in
+    sym (take-append-drop 8 w)
+    ∙ ap₂ (λ (x y : List ℕ). x ++ y) e
+    (recs-build W (recordOf T) 0 (slots-of T) (drop 8 w) (omega (arith, length-drop 8 w, m .size))
+    (λ j k. rw (drop-drop (j * W) 8 w, zero-add j) (ext-getD 0 (recordAt (T .levels) w j) (recordOf T j)
+    (length-take-le W (drop (8 + j * W) w) (omega (arith, length-drop (8 + j * W) w, m .size, mul-le-mul-right W k)) ∙ sym (length-record T j))
+    (λ c l.
+    let lw : c < W = omega (arith, l, length-take-le W (drop (8 + j * W) w) (omega (arith, length-drop (8 + j * W) w, m .size, mul-le-mul-right W k))) in
+    sym (word-rec (T .levels) w j c lw) ∙ m .new j c k lw (omega arith) lw))))

@@ -1,0 +1,120 @@
+-- One level relinked: two words in each of its two columns.
+use Prim.Native.Nat.{ℕ, zero, suc, _+_, _-_, _*_, _≤_, _<_}
+use mathlib.Core.Path.{_≡_, refl, sym, ap, _∙_, subst}
+use mathlib.Core.Logic.{_≢_}
+use mathlib.Core.List.{List, [], _∷_, _++_}
+use lib.ListN.{length, take, drop, getD, set, length-set}
+use lib.Seq.{getD-set-other}
+use native.Mathlib.Omega.{arith}
+use Rattle.arena.specs.Mixed.{Mix}
+use Rattle.model.specs.Arena.{State, listOf, recordOf, header, encode, slots-of}
+use Rattle.model.specs.Cells.{Cell, cellAt, putAt}
+use Rattle.model.specs.Links.{target, distance}
+use Rattle.model.specs.Nodes.{Node, N, slotAt}
+use Rattle.model.specs.Passes.{decode, nodes, Sound, Passes, Sizes}
+use Rattle.model.specs.Walks.{last}
+use Rattle.arena.proofs.Cells.{in-words, put-size, put-front, step-up, step-down, mix-start, mix-end}
+use Rattle.model.proofs.Hang.{Hung, Stage}
+use Rattle.model.proofs.Links.{past}
+use Rattle.model.proofs.Owners.{to, far, says-to, says-far}
+
+-- the links of the levels below l are as in T, all else as in S
+pub record Relinked (S T : State) (fr : List ℕ) (m l : ℕ) (w : List ℕ) : Type 0 where
+  pub front : take 8 w ≡ fr
+  pub mixed : Mix m (slots-of S) (recordOf T) (recordOf S) 4 (4 + 2 * l) w
+
+pub relink-start : (w : List ℕ) → Passes w → (T : State) (m : ℕ) → m ≡ decode w .levels → Relinked (decode w) T (take 8 w) m 0 w
+relink-start w p T m e = record { front = refl; mixed = rw e (mix-start w p (recordOf T) 4) }
+
+-- a cell of a slot that is there
+pub there : (m n : ℕ) → m ≤ 16 → {lo hi : ℕ} {f g : ℕ → List ℕ} (w : List ℕ) → Mix m n f g lo hi w → (s c : ℕ) → s < n → c < 4 + 2 * m → Cell w m s c
+there m n sm w g s c l k = record { small = sm; column = k; inside = in-words m n w (g .size) s c l k }
+
+pub un-past : (k d : ℕ) → past k d - k ≡ d
+un-past k zero = omega arith
+un-past k (suc d) = omega arith
+
+module _ {S T : State} {a o : ℕ} {A X Y : List Node} (H : Hung S T a o A X Y) (on : o < slots-of S) {m : ℕ} (em : m ≡ S .levels) (sm : m ≤ 16)
+    {fr : List ℕ} {l : ℕ} {w : List ℕ} (g : Relinked S T fr m l w) (k : l < m) {s r : ℕ} (st : Stage H (suc l) s r) where
+  lm : l < S .levels
+  lm = omega arith
+
+  pub cell-at : (c : ℕ) → c < 4 + 2 * m → Cell w m s c
+  cell-at c j = there m (slots-of S) sm w (g .mixed) s c (st .known) j
+
+  pub cell-o : (c : ℕ) → c < 4 + 2 * m → Cell w m o c
+  cell-o c j = there m (slots-of S) sm w (g .mixed) o c on j
+
+  pub old-to-is : cellAt m w s (4 + 2 * l) ≡ target (suc l) X
+  old-to-is = g .mixed .above s (4 + 2 * l) (st .known) (omega arith) (omega arith) ∙ st .old-to (4 + 2 * l) (says-to (S .levels) l lm)
+
+  pub old-far-is : cellAt m w s (5 + 2 * l) ≡ past (length A - r) (distance (suc l) X)
+  old-far-is = g .mixed .above s (5 + 2 * l) (st .known) (omega arith) (omega arith) ∙ st .old-far (5 + 2 * l) (says-far (S .levels) l lm)
+
+  module _ (ne : s ≢ o) (tp dp t d : ℕ) (e₁ : tp ≡ target (suc l) Y) (e₂ : dp ≡ past (length A - r) (distance (suc l) Y))
+      (e₃ : getD (recordOf T o) (4 + 2 * l) 0 ≡ t) (e₄ : getD (recordOf T o) (5 + 2 * l) 0 ≡ d)
+      (u : List ℕ) (eu : u ≡ putAt m (putAt m w s (4 + 2 * l) tp) o (4 + 2 * l) t) where
+    mix₁ : Mix m (slots-of S) (recordOf T) (recordOf S) 4 (5 + 2 * l) u
+    mix₁ = rw eu (
+        step-up m (slots-of S) (recordOf T) (recordOf S) w (g .mixed .size) (4 + 2 * l) s tp o t (omega arith) (st .known) on ne
+        (λ z x. g .mixed .above z (4 + 2 * l) x (omega arith) (omega arith))
+        (st .same-to (4 + 2 * l) (says-to (S .levels) l lm)) (st .new-to (4 + 2 * l) (says-to (S .levels) l lm) ∙ sym e₁) e₃
+        4 (4 + 2 * l) (5 + 2 * l) (omega arith) refl (omega arith) (g .mixed)
+        )
+
+    pub cells-then : Cell u m s (5 + 2 * l) × Cell u m o (5 + 2 * l)
+    cells-then = (there m (slots-of S) sm u mix₁ s (5 + 2 * l) (st .known) (omega arith), there m (slots-of S) sm u mix₁ o (5 + 2 * l) on (omega arith))
+
+    pub turned : (x : List ℕ) → x ≡ putAt m (putAt m u s (5 + 2 * l) dp) o (5 + 2 * l) d → Relinked S T fr m (l + 1) x
+    turned x ex = record {
+      front = rw (ex, put-front, put-front, eu, put-front, put-front) (g .front);
+      mixed = rw ex (
+          step-up m (slots-of S) (recordOf T) (recordOf S) u (mix₁ .size) (5 + 2 * l) s dp o d (omega arith) (st .known) on ne
+          (λ z x. mix₁ .above z (5 + 2 * l) x (omega arith) (omega arith))
+          (st .same-far (5 + 2 * l) (says-far (S .levels) l lm)) (st .new-far (5 + 2 * l) (says-far (S .levels) l lm) ∙ sym e₂) e₄
+          4 (5 + 2 * l) (4 + 2 * (l + 1)) (omega arith) refl (omega arith) mix₁
+          );
+    }
+
+-- ---- the whole ----
+pub relink-end : {S T : State} {a o : ℕ} {A X Y : List Node} → Hung S T a o A X Y → (m : ℕ) → m ≡ S .levels → (w : List ℕ)
+    → Mix m (slots-of S) (recordOf T) (recordOf S) 0 (4 + 2 * m) w → take 8 w ≡ header T → w ≡ encode T
+relink-end {S} {T} H m e w x f =
+    let n : slots-of S ≡ slots-of T = omega (arith, H .lists, H .room) in
+    mix-end T (recordOf S) w
+    (subst (λ (k : ℕ). Mix (T .levels) k (recordOf T) (recordOf S) 0 (4 + 2 * T .levels) w) n
+    (subst (λ (k : ℕ). Mix k (slots-of S) (recordOf T) (recordOf S) 0 (4 + 2 * k) w) (e ∙ H .levels) x))
+    f
+
+-- columns 3 to 0, after the links
+pub down : {m n : ℕ} {f g : ℕ → List ℕ} {w : List ℕ} (k lo : ℕ) → Mix m n f g lo (4 + 2 * m) w → lo ≡ suc k → k < 4 → (x v y u : ℕ) → x < n → y < n → x ≢ y
+    → ((s : ℕ) → s < n → s ≢ x → s ≢ y → getD (f s) k 0 ≡ getD (g s) k 0) → getD (f x) k 0 ≡ v → getD (f y) k 0 ≡ u
+    → (w′ : List ℕ) → w′ ≡ putAt m (putAt m w x k v) y k u → Mix m n f g k (4 + 2 * m) w′
+down {m} {n} {f} {g} {w} k lo M e l x v y u xn yn ne alike ax ay w′ q =
+    rw q (step-down m n f g w (M .size) k x v y u (omega arith) xn yn ne (λ s z. M .below s k z (omega arith) (omega arith)) alike ax ay lo (4 + 2 * m) (omega arith) e M)
+
+-- a store in the header changes no record
+pub mix-header : {m n lo hi : ℕ} {f g : ℕ → List ℕ} {w : List ℕ} (j v : ℕ) → j < 8 → Mix m n f g lo hi w → Mix m n f g lo hi (set w j v)
+unfolding cellAt
+mix-header {m} {n} {lo} {hi} {f} {g} {w} j v l M = record {
+  size = length-set w j v ∙ M .size;
+  new = λ s c x y a b. cell-header s c ∙ M .new s c x y a b;
+  below = λ s c x y a. cell-header s c ∙ M .below s c x y a;
+  above = λ s c x y a. cell-header s c ∙ M .above s c x y a;
+}
+  where
+    cell-header : (s c : ℕ) → cellAt m (set w j v) s c ≡ cellAt m w s c
+    cell-header s c = getD-set-other w j (8 + s * (4 + 2 * m) + c) v 0 (λ e. omega (arith, e))
+
+-- the columns from lo on are as in T, those below as in S
+pub record Half (S T : State) (fr : List ℕ) (m lo : ℕ) (w : List ℕ) : Type 0 where
+  pub front : take 8 w ≡ fr
+  pub mixed : Mix m (slots-of S) (recordOf T) (recordOf S) lo (4 + 2 * m) w
+
+pub col : {S T : State} {fr : List ℕ} {m : ℕ} {w : List ℕ} (k : ℕ) → k < 4 → Half S T fr m (suc k) w → (x v y u : ℕ) → x < slots-of S → y < slots-of S → x ≢ y
+    → ((s : ℕ) → s < slots-of S → s ≢ x → s ≢ y → getD (recordOf T s) k 0 ≡ getD (recordOf S s) k 0) → getD (recordOf T x) k 0 ≡ v → getD (recordOf T y) k 0 ≡ u
+    → {w′ : List ℕ} → w′ ≡ putAt m (putAt m w x k v) y k u → Half S T fr m k w′
+col k l g x v y u xn yn ne alike ax ay {w′} q = record {
+  front = rw (q, put-front, put-front) (g .front);
+  mixed = down k (suc k) (g .mixed) refl l x v y u xn yn ne alike ax ay w′ q;
+}

@@ -1,0 +1,3 @@
+-- What the core functions ask of words and leave: for the crates above, not for a reader of the promises.
+pub mod Mixed
+pub mod Owners

@@ -1,0 +1,22 @@
+-- Where a walk stands in words that pass, and the precursors that it notes. Rests on model's specs.
+use Prim.Native.Nat.{ℕ, suc, _≤_, _<_}
+use mathlib.Core.Path.{_≡_}
+use mathlib.Core.List.{List}
+use lib.ListN.{length, take, getD}
+use Rattle.model.specs.Nodes.{slotAt, heightAt}
+use Rattle.model.specs.Walks.{last}
+use Rattle.model.specs.Passes.{decode, nodes, Passes}
+
+-- Slot s is at rank r of list a, and has the links below h.
+pub record Owner (w : List ℕ) (a r s h : ℕ) : Type 0 where
+  pub passes : Passes w
+  pub list : a < length (decode w .lists)
+  pub within : r ≤ length (nodes w a)
+  pub slot-is : s ≡ slotAt a (nodes w a) r
+  pub tall : h ≤ heightAt (decode w .levels) (nodes w a) r
+  pub level : h ≤ decode w .levels
+
+-- The precursors of index i: of each level the last owner of a greater height with rank at most i.
+pub record Before (w : List ℕ) (m a i : ℕ) (slots ranks : List ℕ) : Type 0 where
+  pub rank : (l : ℕ) → l < m → getD ranks l 0 ≡ last (suc l) (take i (nodes w a))
+  pub slot : (l : ℕ) → l < m → getD slots l 0 ≡ slotAt a (nodes w a) (getD ranks l 0)

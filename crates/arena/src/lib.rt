@@ -1,0 +1,101 @@
+// Module 2 of document 01: slots, ranks and indexes, and the words of an arena by slot and column.
+ghost use mathlib.Core.Path.{_≡_};
+ghost use Prim.Native.Nat.{_+_, _≤_, _<_};
+ghost use lib.ListN.{length, getD, set};
+ghost use Rattle.model.specs.Cells.{Cell, cellAt, putAt};
+
+// The number of a record; lists are named by their heads' slots, 0 to L - 1.
+pub struct Slot(pub u32);
+
+// A place in a list, counted from the head, which has rank 0.
+pub struct Rank(pub u32);
+
+// A place in a list, counted from the first node, which has index 0.
+pub struct Index(pub u32);
+
+impl Slot {
+    // No slot: document 01's N.
+    pub const NONE: Slot = Slot(4294967295);
+}
+
+impl Rank {
+    pub const HEAD: Rank = Rank(0);
+
+    pub const FIRST: Rank = Rank(1);
+
+    pub fn from_index(i: Index) -> Rank
+        requires { ⌜ i .0 < 4294967295 ⌝ }
+        ensures { λ r. ⌜ r .0 ≡ i .0 + 1 ⌝ }
+    {
+        Rank(i.0 + Rank::FIRST.0)
+    }
+
+    pub fn to_index(self) -> Index
+        requires { ⌜ 0 < self .0 ⌝ }
+        ensures { λ r. ⌜ r .0 + 1 ≡ self .0 ⌝ }
+    {
+        Index(self.0 - Rank::FIRST.0)
+    }
+
+    // The rank that a link of distance d leads to.
+    pub fn plus(self, d: u32) -> Rank
+        requires { ⌜ self .0 + d < 4294967296 ⌝ }
+        ensures { λ r. ⌜ r .0 ≡ self .0 + d ⌝ }
+    {
+        Rank(self.0 + d)
+    }
+}
+
+pub fn wide(x: u32) -> usize
+    ensures { λ r. ⌜ r ≡ x ⌝ }
+{
+    x as usize
+}
+
+pub fn narrow(x: usize) -> u32
+    requires { ⌜ x < 4294967296 ⌝ }
+    ensures { λ r. ⌜ r ≡ x ⌝ }
+{
+    x as u32
+}
+
+// The word in column c of slot s, in an arena of m levels.
+pub fn cell(w: &[u32], m: usize, s: Slot, c: usize) -> u32
+    requires { ⌜ Cell (now w) m (s .0) c ⌝ }
+    ensures { λ r. ⌜ r ≡ cellAt m (now (w .entry)) (s .0) c ⌝ }
+{
+    let i = s.0 as usize;
+    w[8 + i * (4 + 2 * m) + c]
+}
+
+pub fn put(w: &mut [u32], m: usize, s: Slot, c: usize, v: u32)
+    requires { ⌜ Cell (now w) m (s .0) c ⌝ }
+    ensures { λ _. ⌜ now (w .exit) ≡ putAt m (now (w .entry)) (s .0) c v ⌝ }
+{
+    let i = s.0 as usize;
+    w[8 + i * (4 + 2 * m) + c] = v;
+}
+
+// Two words of one column.
+pub fn put2(w: &mut [u32], m: usize, c: usize, x: Slot, v: u32, y: Slot, u: u32)
+    requires { ⌜ Cell (now w) m (x .0) c × Cell (now w) m (y .0) c ⌝ }
+    ensures { λ _. ⌜ now (w .exit) ≡ putAt m (putAt m (now (w .entry)) (x .0) c v) (y .0) c u ⌝ }
+{
+    put(w, m, x, c, v);
+    put(w, m, y, c, u);
+}
+
+// Word i of the header.
+pub fn header(w: &[u32], i: usize) -> u32
+    requires { ⌜ (i < 8) × (8 ≤ length (now w)) ⌝ }
+    ensures { λ r. ⌜ r ≡ getD (now (w .entry)) i 0 ⌝ }
+{
+    w[i]
+}
+
+pub fn put_header(w: &mut [u32], i: usize, v: u32)
+    requires { ⌜ (i < 8) × (8 ≤ length (now w)) ⌝ }
+    ensures { λ _. ⌜ now (w .exit) ≡ set (now (w .entry)) i v ⌝ }
+{
+    w[i] = v;
+}

@@ -1,0 +1,121 @@
+-- An insertion, and a removal that undoes it: what changes in the records.
+use Prim.Native.Nat.{ℕ, zero, suc, _+_, _-_, _*_, _≤_, _<_}
+use mathlib.Core.Path.{_≡_, refl, sym, ap, _∙_, subst}
+use mathlib.Core.Logic.{_≢_, _⊎_, inl, inr}
+use mathlib.Core.List.{List, [], _∷_, _++_, append-assoc}
+use lib.ListN.{length, take, drop, getD, set, length-set, length-append, length-drop, take-append-drop}
+use lib.Seq.{getD-set-same, getD-set-other}
+use native.Mathlib.Omega.{arith}
+use Rattle.model.specs.Arena.{State, nodeWords, headWords, freeWords, listOf, recordOf, slots-of}
+use Rattle.model.specs.Calls.{insertIn, doInsert}
+use Rattle.model.specs.Lists.{insert}
+use Rattle.model.specs.Nodes.{Node, node, N, slotAt, smaller}
+use Rattle.model.specs.Passes.{Sound, times, timesAll, timesFree}
+use Rattle.model.specs.Walks.{last}
+use Rattle.model.proofs.Hang.{InA, its-head, its-node, Hung}
+use Rattle.model.proofs.Keeps.{sound-insert}
+use Rattle.model.proofs.Owners.{Place, head, listed, freed, place}
+use Rattle.model.proofs.Records.{head-words, node-words, free-words, slot-of, free-slot, free-mid, times-mid, timesAll-ge}
+use Rattle.model.proofs.Splitting.{InOf, in-first, in-second, in-of}
+use Rattle.model.proofs.Tests.{Same, same, other, same?, Test, hit, miss, test}
+
+abbrev pub withBoth : State → List (List Node) → List ℕ → State
+withBoth Z ls fs = record { levels = Z .levels; room = Z .room; lists = ls; free = fs }
+
+-- list a is A ++ B and f is first on the free chain, or a is A ++ n ∷ B, where n stands in slot f
+pub record InsertLike (Z : State) (ls ms : List (List Node)) (f : ℕ) (fs : List ℕ) (a : ℕ) (A : List Node) (n : Node) (B : List Node) : Type 0 where
+  pub sound-S : Sound (withBoth Z ls (f ∷ fs))
+  pub sound-T : Sound (withBoth Z ms fs)
+  pub lists : length ls ≡ length ms
+  pub list-a : a < length ls
+  pub slot : n .slot ≡ f
+  pub S-a : getD ls a [] ≡ A ++ B
+  pub T-a : getD ms a [] ≡ A ++ n ∷ B
+  pub others : (z : ℕ) → z ≢ a → getD ms z [] ≡ getD ls z []
+
+module _ {Z : State} {ls ms : List (List Node)} {f : ℕ} {fs : List ℕ} {a : ℕ} {A : List Node} {n : Node} {B : List Node} (p : InsertLike Z ls ms f fs a A n B) where
+  abbrev S : State
+  S = withBoth Z ls (f ∷ fs)
+
+  abbrev T : State
+  T = withBoth Z ms fs
+
+  free-rest : (s : ℕ) (gs hs : List ℕ) → s ≢ f → f ∷ fs ≡ gs ++ s ∷ hs → recordOf T s ≡ recordOf S s
+  free-rest s [] hs ne e = absurd (ne (cc))
+  free-rest s (g ∷ gs) hs ne e =
+      let q : fs ≡ gs ++ s ∷ hs = cc in
+      free-words T (p .sound-T) gs s hs q ∙ sym (free-words S (p .sound-S) (g ∷ gs) s hs e)
+
+  rest : (s : ℕ) → s < slots-of S → s ≢ f → InA a A s ⊎ (recordOf T s ≡ recordOf S s)
+  rest s l nf = elim (place S (p .sound-S) s l) [
+    | head k ↦ elim (same? s a) [
+      | same e q ↦ inl (its-head q)
+      | other e q ↦ inr (head-words T s (omega (arith, p .lists)) ∙ ap (headWords (Z .levels)) (p .others s q) ∙ sym (head-words S s k))
+    ]
+    | listed c lc aa y ys e q ↦ elim (same? c a) [
+      | same i r ↦
+          let g : A ++ B ≡ aa ++ y ∷ ys = sym (p .S-a) ∙ sym (ap (listOf S) r) ∙ e in
+          elim (in-of A B aa y ys g) [
+            | in-first vs h i ↦ inl (its-node aa y vs h q)
+            | in-second us h i ↦
+                let t : getD ms a [] ≡ (A ++ n ∷ us) ++ y ∷ ys = p .T-a ∙ ap (λ (x : List Node). A ++ n ∷ x) i ∙ sym (append-assoc A (n ∷ us) (y ∷ ys)) in
+                inr (subst (λ (z : ℕ). recordOf T z ≡ recordOf S z) q
+                (node-words T (p .sound-T) a (A ++ n ∷ us) y ys (omega (arith, p .lists, p .list-a)) t ∙ sym (node-words S (p .sound-S) a aa y ys (p .list-a) (p .S-a ∙ g))))
+          ]
+      | other i r ↦
+          inr (subst (λ (z : ℕ). recordOf T z ≡ recordOf S z) q
+          (node-words T (p .sound-T) c aa y ys (omega (arith, p .lists)) (p .others c r ∙ e) ∙ sym (node-words S (p .sound-S) c aa y ys lc e)))
+    ]
+    | freed gs hs e ↦ inr (free-rest s gs hs nf e)
+  ]
+
+  pub hung-insert : Hung S T a f A B (n ∷ B)
+  hung-insert = record {
+    sound-S = p .sound-S;
+    sound-T = p .sound-T;
+    levels = refl;
+    room = refl;
+    lists = p .lists;
+    list = p .list-a;
+    is-S = p .S-a;
+    is-T = p .T-a;
+    rest = rest;
+  }
+
+  pub f-in : (length ls ≤ f) × (f < slots-of S)
+  f-in = let q = free-slot S (p .sound-S) [] f fs refl in (q .0, q .1)
+
+  -- no owner of A is f
+  pub not-f : (s : ℕ) → InA a A s → s ≢ f
+  not-f s i e = elim i [
+    | its-head q ↦ omega (arith, q, e, f-in .0, p .list-a)
+    | its-node aa y vs h q ↦
+        let g : getD ls a [] ≡ aa ++ y ∷ (vs ++ B) = p .S-a ∙ ap (λ (t : List Node). t ++ B) h ∙ append-assoc aa (y ∷ vs) B in
+        let o = slot-of S (p .sound-S) a aa y (vs ++ B) g .2 in
+        let u = rw g at (timesAll-ge (y .slot) ls a) in
+        let r : f ≡ y .slot = sym (q ∙ e) in
+        omega (arith, o, u, times-mid aa y (vs ++ B), subst (λ (z : ℕ). 1 ≤ timesFree z (f ∷ fs)) r (free-mid [] f fs))
+  ]
+
+  pub f-T : recordOf T f ≡ nodeWords (Z .levels) n B
+  f-T = subst (λ (z : ℕ). recordOf T z ≡ nodeWords (Z .levels) n B) (p .slot) (node-words T (p .sound-T) a A n B (omega (arith, p .lists, p .list-a)) (p .T-a))
+
+  pub f-S : recordOf S f ≡ freeWords (Z .levels) fs
+  f-S = free-words S (p .sound-S) [] f fs refl
+
+-- the insertion of the model, where the free chain is f and fs
+pub insert-like : (S : State) → Sound S → (f : ℕ) (fs : List ℕ) → S .free ≡ f ∷ fs → (a k h : ℕ) → a < length (S .lists) → h ≤ S .levels
+    → InsertLike S (S .lists) (insertIn S a k h (f ∷ fs) .lists) f fs a (take (smaller k (listOf S a)) (listOf S a)) (node f k h) (drop (smaller k (listOf S a)) (listOf S a))
+insert-like S v f fs e a k h la hm =
+    let xs = listOf S a in
+    let ys = insert (node f k h) xs in
+    record {
+      sound-S = subst (λ (t : List ℕ). Sound (withBoth S (S .lists) t)) e v;
+      sound-T = sound-insert S v a la f fs k h e hm;
+      lists = sym (length-set (S .lists) a ys);
+      list-a = la;
+      slot = refl;
+      S-a = sym (take-append-drop (smaller k xs) xs);
+      T-a = getD-set-same (S .lists) a ys [] la;
+      others = λ z na. getD-set-other (S .lists) a z ys [] na;
+    }

@@ -1,0 +1,95 @@
+-- How links change, and that an append undoes a split.
+use Prim.Native.Nat.{ℕ, zero, suc, _+_, _-_, _≤_, _<_}
+use mathlib.Core.Path.{_≡_, refl, sym, ap, _∙_}
+use mathlib.Core.Logic.{_≢_}
+use mathlib.Core.Bool.{Bool, true, false, cond}
+use mathlib.Core.List.{List, [], _∷_, _++_, append-nil}
+use lib.Dec.{leb, eqb}
+use lib.ListN.{length, take, drop, getD, set, take-append-drop}
+use lib.Seq.{lt-length-set, set-set, set-comm, set-getD, getD-set-same, getD-set-other}
+use native.Mathlib.Nat.{zero-add, add-zero, add-suc}
+use native.Mathlib.Omega.{arith}
+use borrow.Author.Tests.{le-leb, lt-leb}
+use Rattle.model.specs.Arena.{State, putList, listOf}
+use Rattle.model.specs.Calls.{doSplit, doAppend}
+use Rattle.model.specs.Links.{further, distance, target}
+use Rattle.model.specs.Lists.{lastKey, append}
+use Rattle.model.specs.Nodes.{Node, node, Above, Sorted}
+use Rattle.model.specs.Walks.{go, asks}
+use Rattle.model.proofs.Tests.{Test, hit, miss, test}
+
+-- a link over two lists: within the first, or past it into the second
+abbrev pub past : ℕ → ℕ → ℕ
+past n zero = zero
+past n (suc d) = suc (n + d)
+
+abbrev pub join : ℕ → ℕ → ℕ
+join zero e = e
+join (suc d) e = suc d
+
+pub distance-append : (h : ℕ) (aa bb : List Node) → distance h (aa ++ bb) ≡ join (distance h aa) (past (length aa) (distance h bb))
+distance-append h [] bb = zeros (distance h bb)
+  where
+    zeros : (d : ℕ) → d ≡ past 0 d
+    zeros zero = refl
+    zeros (suc d) = omega arith
+distance-append h (y ∷ ys) bb = elim (test h (y .height)) [
+  | hit e p ↦ rw e refl
+  | miss e p ↦ rw (e, distance-append h ys bb) (bumped (distance h ys) (distance h bb))
+]
+  where
+    bumped : (a b : ℕ) → further (join a (past (length ys) b)) ≡ join (further a) (past (suc (length ys)) b)
+    bumped zero zero = refl
+    bumped zero (suc b) = omega arith
+    bumped (suc a) b = refl
+
+pub target-append : (h : ℕ) (aa bb : List Node) → distance h aa ≡ 0 → target h (aa ++ bb) ≡ target h bb
+target-append h [] bb e = refl
+target-append h (y ∷ ys) bb e = elim (test h (y .height)) [
+  | hit f p ↦ absurd (omega (arith, rw f at e))
+  | miss f p ↦ rw f (target-append h ys bb (un (distance h ys) (rw f at e)))
+]
+  where
+    un : (d : ℕ) → further d ≡ 0 → d ≡ 0
+    un zero e = refl
+    un (suc d) e = omega arith
+
+-- a spanning link grows by one where a lower node is put in; the node's own stage stops at it
+pub distance-insert-low : (h : ℕ) (n : Node) (aa bb : List Node) → n .height < h → distance h aa ≡ 0 → distance h (aa ++ n ∷ bb) ≡ further (distance h (aa ++ bb))
+distance-insert-low h n aa bb l e =
+    rw (distance-append h aa (n ∷ bb), distance-append h aa bb, e, lt-leb h (n .height) l) (bumped (length aa) (distance h bb))
+  where
+    bumped : (k d : ℕ) → past k (further d) ≡ further (past k d)
+    bumped k zero = refl
+    bumped k (suc d) = omega arith
+
+pub distance-insert-high : (h : ℕ) (n : Node) (aa bb : List Node) → h ≤ n .height → distance h aa ≡ 0 → distance h (aa ++ n ∷ bb) ≡ suc (length aa)
+distance-insert-high h n aa bb l e = rw (distance-append h aa (n ∷ bb), e, le-leb h (n .height) l) (omega arith)
+
+-- ---- K12 ----
+last-first : (aa : List Node) (b : Node) (bb : List Node) → Sorted (aa ++ b ∷ bb) → lastKey aa ≤ b .key
+last-first [] b bb s = omega arith
+last-first (a ∷ []) b bb s = s .0 .0
+last-first (a ∷ c ∷ aa) b bb s = last-first (c ∷ aa) b bb (s .1)
+
+append-sorted : (aa bb : List Node) → Sorted (aa ++ bb) → append aa bb ≡ aa ++ bb
+append-sorted aa [] s = sym (append-nil aa)
+append-sorted [] (b ∷ bb) s = refl
+append-sorted (a ∷ aa) (b ∷ bb) s = rw (le-leb (lastKey (a ∷ aa)) (b .key) (last-first (a ∷ aa) b bb s)) refl
+
+pub split-append : (i : ℕ) (xs : List Node) → Sorted xs → append (take i xs) (drop i xs) ≡ xs
+split-append i xs s = append-sorted (take i xs) (drop i xs) (rw (take-append-drop i xs) s) ∙ take-append-drop i xs
+
+pub split-append-state : (S : State) (a b i : ℕ) → a < length (S .lists) → b < length (S .lists) → a ≢ b → listOf S b ≡ [] → Sorted (listOf S a)
+    → doAppend (doSplit S a b i) a b ≡ S
+split-append-state S a b i la lb ne e s =
+    let ls = S .lists in
+    let xs = listOf S a in
+    let A = take i xs in
+    let B = drop i xs in
+    let T = set (set ls a A) b B in
+    let ga : getD T a [] ≡ A = getD-set-other (set ls a A) b a B [] ne ∙ getD-set-same ls a A [] la in
+    let gb : getD T b [] ≡ B = getD-set-same (set ls a A) b B [] (lt-length-set ls a A lb) in
+    let p : set (set T a (append (getD T a []) (getD T b []))) b [] ≡ ls
+    = rw (ga, gb, split-append i xs s, set-comm (set ls a A) b a B xs (λ q. ne (sym q)), set-set, set-set, set-getD, ← e, set-getD) refl in
+    ap (λ (l : List (List Node)). record { levels = S .levels; room = S .room; lists = l; free = S .free }) p

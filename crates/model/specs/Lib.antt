@@ -1,0 +1,11 @@
+-- The definitions of document 01, in its order. A reader has to believe these files and no others.
+pub mod Nodes
+pub mod Links
+pub mod Walks
+pub mod Lists
+pub mod Arena
+pub mod Cells
+pub mod Passes
+pub mod Calls
+pub mod Gaps
+pub mod Bench
