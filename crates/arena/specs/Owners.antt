@@ -6,6 +6,13 @@ use lib.ListN.{length, take, getD}
 use Rattle.model.specs.Nodes.{slotAt, heightAt}
 use Rattle.model.specs.Walks.{last}
 use Rattle.model.specs.Passes.{decode, nodes, Passes}
+use Rattle.arena.specs.declared.Path.{Path}
+
+-- The words pass, m is their number of levels, and a is a list of theirs.
+pub record Listed (w : List ℕ) (m a : ℕ) : Type 0 where
+  pub passes : Passes w
+  pub levels : m ≡ decode w .levels
+  pub list : a < length (decode w .lists)
 
 -- Slot s is at rank r of list a, and has the links below h.
 pub record Owner (w : List ℕ) (a r s h : ℕ) : Type 0 where
@@ -20,3 +27,8 @@ pub record Owner (w : List ℕ) (a r s h : ℕ) : Type 0 where
 pub record Before (w : List ℕ) (m a i : ℕ) (slots ranks : List ℕ) : Type 0 where
   pub rank : (l : ℕ) → l < m → getD ranks l 0 ≡ last (suc l) (take i (nodes w a))
   pub slot : (l : ℕ) → l < m → getD slots l 0 ≡ slotAt a (nodes w a) (getD ranks l 0)
+
+-- The path notes the precursors of index i, and the slot of rank i.
+pub record Leads (w : List ℕ) (m a i : ℕ) (p : Path) : Type 0 where
+  pub before : Before w m a i (p .slots) (p .ranks)
+  pub end : p .end .0 ≡ slotAt a (nodes w a) i

@@ -13,6 +13,13 @@ pub struct Rank(pub u32);
 // A place in a list, counted from the first node, which has index 0.
 pub struct Index(pub u32);
 
+// What a walk to an index notes (the crate's `Path`): of each level the precursor's slot and rank, and the slot just before the index.
+pub struct Path {
+    pub slots: [u32; 16],
+    pub ranks: [u32; 16],
+    pub end: Slot,
+}
+
 impl Slot {
     // No slot: document 01's N.
     pub const NONE: Slot = Slot(4294967295);
