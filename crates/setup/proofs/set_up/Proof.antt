@@ -1,0 +1,46 @@
+-- `setup::set_up` meets its contract: a slice that fits is filled record by record, then its header; any other is left alone.
+use native.Mathlib.Omega.{arith}
+use Rattle.model.specs.Calls.{Room}
+use Rattle.setup.proofs.Filling.{said, new-arena, accepted, refused}
+use borrow.Author.Needs.{needs}
+use Rattle.setup.proofs.set_up.Statement.{statement}
+use Rattle.setup.proofs.set_up.Tie as tie
+
+fits-requires : tie.Need-fits-requires
+fits-requires c κs = search needs
+
+add-write-records : tie.Need-add-write-records
+add-write-records c = omega (arith, said (c .before .before .fits2 .ensures) (c .before .if1 .taken) .ranges)
+
+write-records-requires : tie.Need-write-records-requires
+write-records-requires c κs =
+    let r = said (c .before .before .fits2 .ensures) (c .before .if1 .taken) in
+    (omega (arith, r .ranges), r .size)
+
+write-header-requires : tie.Need-write-header-requires
+write-header-requires c κs =
+    let r = said (c .before .before .before .before .before .before .fits2 .ensures) (c .before .before .before .before .before .if1 .taken) in
+    omega (arith, r .ranges, r .size, c .before .before .before .write-records .ensures .size)
+
+same-length : tie.Need-same-length
+same-length c = search needs
+
+returns : tie.Need-returns
+returns c =
+    let r = said (c .before .before .before .before .before .before .before .before .before .fits2 .ensures) (c .before .before .before .before .before .before .before .before .if1 .taken) in
+    accepted r (new-arena r (c .before .before .before .before .before .before .write-records .ensures) (c .before .before .write-header .ensures))
+
+returns-2 : tie.Need-returns-2
+returns-2 c = refused (c .before .fits2 .ensures) (c .if1 .left)
+
+pub set-up-spec : {M : Type 1} → statement M
+set-up-spec =
+    tie.close
+    (tie.spec
+    fits-requires
+    add-write-records
+    write-records-requires
+    write-header-requires
+    same-length
+    returns
+    returns-2)

@@ -1,0 +1,165 @@
+// Set-up (module 2 of document 01): all lists empty, the free slots chained upwards from L.
+ghost use mathlib.Core.Path.{_≡_};
+ghost use Prim.Native.Nat.{_+_, _-_, _*_, _≤_, _<_};
+ghost use lib.ListN.{length, take};
+ghost use Rattle.model.specs.Arena.{header, encode, setUp, recordOf};
+ghost use Rattle.model.specs.Passes.{Ranges};
+ghost use Rattle.model.specs.Calls.{Room, SetUpPromise};
+ghost use Rattle.setup.specs.Bare.{bareWord, bareWords, Says, Inside, Written, Filled, HeaderSet, numberOf};
+use arena::Slot;
+
+const MARK: u32 = 4279123;
+
+const VERSION: u32 = 1;
+
+pub enum Setup {
+    Done,
+    Wrong,
+}
+
+// The first four words of a record whose links are all absent.
+pub struct Bare {
+    pub a: u32,
+    pub b: u32,
+    pub e: u32,
+    pub d: u32,
+}
+
+// The word in column c of such a record.
+fn bare_word(c: usize, f: Bare) -> u32
+    ensures { λ r. ⌜ r ≡ bareWord c (f .a) (f .b) (f .e) (f .d) ⌝ }
+{
+    if c == 0 {
+        return f.a;
+    }
+    if c == 1 {
+        return f.b;
+    }
+    if c == 2 {
+        return f.e;
+    }
+    if c == 3 {
+        return f.d;
+    }
+    if c % 2 == 0 {
+        return Slot::NONE.0;
+    }
+    0
+}
+
+fn write_record(w: &mut [u32], m: usize, s: Slot, f: Bare)
+    requires { ⌜ Inside (now w) m (s .0) ⌝ }
+    ensures { λ _. ⌜ Written m (now (w .entry)) (s .0) (bareWords m (f .a) (f .b) (f .e) (f .d)) (now (w .exit)) ⌝ }
+{
+    let mut c: usize = 0;
+    while c < 4 + 2 * m {
+        arena::put(w, m, s, c, bare_word(c, f));
+        c += 1;
+    }
+}
+
+// The record of slot s of n in a new arena: an empty list's head, or a free slot before the next.
+fn form(s: u32, l: u32, m: u32, n: u32) -> Bare
+    requires { ⌜ (l ≤ n) × (s < n) × (n ≤ 65551) ⌝ }
+    ensures { λ r. ⌜ bareWords m (r .a) (r .b) (r .e) (r .d) ≡ recordOf (setUp l m (n - l)) s ⌝ }
+{
+    if s < l {
+        return Bare {
+            a: 0,
+            b: m,
+            e: Slot::NONE.0,
+            d: Slot::NONE.0,
+        };
+    }
+    if s + 1 == n {
+        return Bare {
+            a: 0,
+            b: Slot::NONE.0,
+            e: Slot::NONE.0,
+            d: 0,
+        };
+    }
+    Bare {
+        a: 0,
+        b: Slot::NONE.0,
+        e: s + 1,
+        d: 0,
+    }
+}
+
+fn write_records(w: &mut [u32], l: u32, m: u32, n: u32)
+    requires { ⌜ (l ≤ n) × (n ≤ 65551) × (m ≤ 16) ⌝ }
+    requires { ⌜ length (now w) ≡ 8 + n * (4 + 2 * m) ⌝ }
+    ensures { λ _. ⌜ Filled l m n (now (w .entry)) n (now (w .exit)) ⌝ }
+{
+    let levels = arena::wide(m);
+    let mut s: u32 = 0;
+    while s < n {
+        write_record(w, levels, Slot(s), form(s, l, m, n));
+        s += 1;
+    }
+}
+
+fn write_header(w: &mut [u32], l: u32, m: u32, c: u32)
+    requires { ⌜ 8 ≤ length (now w) ⌝ }
+    requires { ⌜ 1 ≤ c ⌝ }
+    ensures { λ _. ⌜ HeaderSet (now (w .entry)) (header (setUp l m c)) (now (w .exit)) ⌝ }
+{
+    w[0] = MARK;
+    w[1] = VERSION;
+    w[2] = l;
+    w[3] = m;
+    w[4] = c;
+    w[5] = l;
+    w[6] = c;
+    w[7] = 0;
+}
+
+// The length of an arena.
+fn size(l: u32, m: u32, c: u32) -> usize
+    requires { ⌜ (l ≤ 16) × (m ≤ 16) × (c ≤ 65535) ⌝ }
+    ensures { λ r. ⌜ r ≡ 8 + (l + c) * (4 + 2 * m) ⌝ }
+{
+    let slots = arena::wide(l + c);
+    let width = 4 + 2 * arena::wide(m);
+    8 + slots * width
+}
+
+// Whether L, M, C and the slice's length are right; the ranges come before any product.
+fn fits(l: u32, m: u32, c: u32, n: usize) -> bool
+    ensures { λ r. ⌜ Says r (Room l m c n) ⌝ }
+{
+    if l < 1 {
+        return false;
+    }
+    if l > 16 {
+        return false;
+    }
+    if m < 1 {
+        return false;
+    }
+    if m > 16 {
+        return false;
+    }
+    if c < 1 {
+        return false;
+    }
+    if c > 65535 {
+        return false;
+    }
+    if n != size(l, m, c) {
+        return false;
+    }
+    true
+}
+
+pub fn set_up(w: &mut [u32], l: u32, m: u32, c: u32) -> Setup
+    ensures { λ r. ⌜ SetUpPromise l m c (now (w .entry)) (now (w .exit)) (numberOf r) ⌝ }
+{
+    if fits(l, m, c, w.len()) {
+        write_records(w, l, m, l + c);
+        write_header(w, l, m, c);
+        return Setup::Done;
+    }
+    Setup::Wrong
+}
