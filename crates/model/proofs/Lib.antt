@@ -17,3 +17,4 @@ pub mod Splitting
 pub mod Inserting
 pub mod Counting
 pub mod Composing
+pub mod Searching
