@@ -18,3 +18,5 @@ pub mod Inserting
 pub mod Counting
 pub mod Composing
 pub mod Searching
+pub mod ByKey
+pub mod ByRank

@@ -7,14 +7,15 @@ use mathlib.Core.List.{List, [], _∷_}
 use lib.Dec.{leb, ltb, eqb, eqb·suc-zero}
 use lib.ListN.{length, drop, getD, length-drop}
 use lib.Seq.{drop-drop, getD-drop}
-use native.Mathlib.Nat.{zero-add, add-zero}
+use native.Mathlib.Nat.{zero-add, suc-sub-suc}
 use native.Mathlib.Omega.{arith}
 use borrow.Author.Tests.{le-leb, lt-ltb, le-ltb}
 use Rattle.model.specs.Links.{distance}
 use Rattle.model.specs.Nodes.{Node, node, N, keyAt, at, smaller, smallerKeys, Above, Sorted}
-use Rattle.model.specs.Walks.{Stand, stand, along, descend, End, found, missing, byNext, keyWalk, go, asks, ends, tally, keyIs}
+use Rattle.model.specs.Walks.{Stand, stand, along, descend, precursors, End, found, missing, ended, isFound, placeOf, byNext, keyWalk, go, asks, ends, tally, stops, keyIs}
 use Rattle.model.proofs.Steps.{absent-step, smaller-step, other-step}
 use Rattle.model.proofs.Tests.{Test, hit, miss, test}
+use Rattle.model.proofs.Walk.{above-trans}
 
 -- ---- along one level ----
 none-left : (h t : ℕ) (ys : List Node) → length ys ≤ 0 → (go h t ys ≡ 0) × (asks h t ys ≡ 0)
@@ -92,3 +93,56 @@ walk-is (suc h) t xs r m =
 pub key-walk-is : (M t : ℕ) (xs : List Node)
     → keyWalk M t xs ≡ cond (keyIs t (drop (ends M t xs) xs)) (found (stand (suc (ends M t xs)) (tally M t xs))) (missing (stand (ends M t xs) (tally M t xs)))
 key-walk-is M t xs = walk-is M t xs 0 0 ∙ ap₂ (λ (p k : ℕ). endAt (keyIs t (drop p xs)) p k) (zero-add (ends M t xs)) (zero-add (tally M t xs))
+
+-- ---- what it answers ----
+found-end : (b : Bool) (r n : ℕ) → isFound (endAt b r n) ≡ b
+found-end true r n = refl
+found-end false r n = refl
+
+place-end : (b : Bool) (r n : ℕ) → placeOf (endAt b r n) ≡ r
+place-end true r n = omega arith
+place-end false r n = refl
+
+tally-end : (b : Bool) (r n : ℕ) → ended (endAt b r n) .tally ≡ n
+tally-end true r n = refl
+tally-end false r n = refl
+
+module _ (M t : ℕ) (xs : List Node) where
+  pub walk-found : isFound (keyWalk M t xs) ≡ keyIs t (drop (ends M t xs) xs)
+  walk-found = ap isFound (key-walk-is M t xs) ∙ found-end (keyIs t (drop (ends M t xs) xs)) (ends M t xs) (tally M t xs)
+
+  pub walk-place : placeOf (keyWalk M t xs) ≡ ends M t xs
+  walk-place = ap placeOf (key-walk-is M t xs) ∙ place-end (keyIs t (drop (ends M t xs) xs)) (ends M t xs) (tally M t xs)
+
+  pub walk-tally : ended (keyWalk M t xs) .tally ≡ tally M t xs
+  walk-tally = ap (λ (e : End). ended e .tally) (key-walk-is M t xs) ∙ tally-end (keyIs t (drop (ends M t xs) xs)) (ends M t xs) (tally M t xs)
+
+-- the precursor of level l, from the highest down
+pub precursor-stop : (M t : ℕ) (xs : List Node) (r m l : ℕ) → l < M
+    → getD (precursors M t xs (stand r m)) (M - suc l) (stand 0 0) .rank ≡ getD (stops M t r (drop r xs)) (M - suc l) 0
+precursor-stop zero t xs r m l k = absurd (omega arith)
+precursor-stop (suc M) t xs r m l k =
+    let d = go (suc M) t (drop r xs) in
+    let a = along-is (length xs) M t xs r m (omega (arith, length-drop r xs)) in
+    elim (test M l) [
+      | hit e p ↦
+          let z : M - l ≡ 0 = omega arith in
+          rw (suc-sub-suc, z) (ap (λ (s : Stand). s .rank) a)
+      | miss e p ↦
+          let z : M - l ≡ suc (M - suc l) = omega arith in
+          rw (suc-sub-suc, z) (ap (λ (s : Stand). getD (precursors M t xs s) (M - suc l) (stand 0 0) .rank) a
+          ∙ precursor-stop M t xs (r + d) (m + asks (suc M) t (drop r xs)) l p
+          ∙ ap (λ (ys : List Node). getD (stops M t (r + d) ys) (M - suc l) 0) (sym (drop-drop d r xs)))
+    ]
+
+-- "the number of smaller keys": on a list whose keys never fall, those before the first that is not smaller
+none-smaller : (t : ℕ) (ys : List Node) → Above t ys → smallerKeys t ys ≡ 0
+none-smaller t [] q = refl
+none-smaller t (y ∷ ys) q = rw (le-ltb (y .key) t (q .0)) (none-smaller t ys (q .1))
+
+pub smaller-all : (t : ℕ) (xs : List Node) → Sorted xs → smaller t xs ≡ smallerKeys t xs
+smaller-all t [] s = refl
+smaller-all t (y ∷ ys) s = elim (test (suc (y .key)) t) [
+  | hit e p ↦ rw e (ap suc (smaller-all t ys (s .1)))
+  | miss e p ↦ rw e (sym (none-smaller t ys (above-trans (omega arith) ys (s .0))))
+]
