@@ -20,3 +20,5 @@ pub mod Composing
 pub mod Searching
 pub mod ByKey
 pub mod ByRank
+pub mod Allowed
+pub mod EveryCall
