@@ -13,10 +13,11 @@ use Rattle.model.specs.Arena.{State, listOf, upFrom, setUp, encode}
 use Rattle.model.specs.Calls.{Call, search, read, insertKey, removeKey, removeIndex, truncate, clear, splitAt, splitKey, appendList, middle, level, refusal, insertIn, performed, resultOf}
 use Rattle.model.specs.Nodes.{Node, smaller, Sorted, Low}
 use Rattle.model.specs.Passes.{decode, timesAll, timesFree, Each, Sound, Ranges, Sizes, Passes}
+use Rattle.model.specs.Sequences.{resultsOf}
 use Rattle.model.proofs.Allowed.{Allowed, allowed}
 use Rattle.model.proofs.Builds.{passes-encode}
 use Rattle.model.proofs.ByKey.{key-place, key-found}
-use Rattle.model.proofs.Keeps.{each-get, sound-insert, sound-remove, sound-truncate, sound-level, sound-split, sound-append}
+use Rattle.model.proofs.Keeps.{sorted-list, sound-insert, sound-remove, sound-truncate, sound-level, sound-split, sound-append}
 use Rattle.model.proofs.Tests.{Same, same, other, same?}
 
 -- what holds of a model that an accepted call leaves, and of the model before, holds after any call
@@ -71,7 +72,7 @@ insert-sound S v a k h la l (f ∷ fs) e z = sound-insert S v a la f fs k h e l
 -- a key that the search finds stands at the number of smaller keys
 pub found-within : (S : State) → Sound S → (a k : ℕ) → Allowed S (removeKey a k) → smaller k (listOf S a) < length (listOf S a)
 found-within S v a k p =
-    let s = each-get Sorted (S .lists) a tt (v .sorted) in
+    let s = sorted-list S v a in
     rw (key-place (S .levels) k (listOf S a) s) at (key-found (S .levels) k (listOf S a) s (p .1) .within)
 
 sound-performed : (S : State) → Sound S → (c : Call) → Allowed S c → Sound (performed S c)
@@ -93,6 +94,11 @@ sound-after S v c = after-any Sound S c (sound-performed S v c) v
 
 pub kept : (S : State) → Sound S → Sizes S → (c : Call) → Sound (resultOf S c) × Sizes (resultOf S c)
 kept S v z c = (sound-after S v c, alike-sizes (alike-after S c) z)
+
+-- any number of calls
+pub sound-after-all : (S : State) → Sound S → (cs : List Call) → Sound (resultsOf S cs)
+sound-after-all S v [] = v
+sound-after-all S v (c ∷ cs) = sound-after-all (resultOf S c) (sound-after S v c) cs
 
 pub passes-after : (w : List ℕ) → Passes w → (c : Call) → Passes (encode (resultOf (decode w) c))
 passes-after w p c = let k = kept (decode w) (p .sound) (p .sizes) c in passes-encode (resultOf (decode w) c) (k .0) (k .1)

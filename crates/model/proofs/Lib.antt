@@ -22,3 +22,4 @@ pub mod ByKey
 pub mod ByRank
 pub mod Allowed
 pub mod EveryCall
+pub mod Limits
