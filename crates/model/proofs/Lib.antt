@@ -23,3 +23,4 @@ pub mod ByRank
 pub mod Allowed
 pub mod EveryCall
 pub mod Limits
+pub mod KeysAfter
