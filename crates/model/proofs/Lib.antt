@@ -24,3 +24,5 @@ pub mod Allowed
 pub mod EveryCall
 pub mod Limits
 pub mod KeysAfter
+pub mod Runs
+pub mod Frame
