@@ -26,3 +26,4 @@ pub mod Limits
 pub mod KeysAfter
 pub mod Runs
 pub mod Frame
+pub mod Leaves
