@@ -44,6 +44,13 @@ each-get P [] a n e = n
 each-get P (xs ∷ xss) zero n e = e .0
 each-get P (xs ∷ xss) (suc a) n e = each-get P xss a n (e .1)
 
+-- the keys of a list of a sound model never fall, and its heights are at most M
+pub sorted-list : (S : State) → Sound S → (a : ℕ) → Sorted (listOf S a)
+sorted-list S v a = each-get Sorted (S .lists) a tt (v .sorted)
+
+pub low-list : (S : State) → Sound S → (a : ℕ) → Low (S .levels) (listOf S a)
+low-list S v a = each-get (Low (S .levels)) (S .lists) a tt (v .low)
+
 -- one list and the free chain change
 sound-put : (S : State) (a : ℕ) (ys : List Node) (fs : List ℕ) → a < length (S .lists) → Sound S → Sorted ys → Low (S .levels) ys
     → ((s : ℕ) → times s ys + timesFree s fs ≡ times s (listOf S a) + timesFree s (S .free)) → Sound (putList S a ys fs)
@@ -173,16 +180,10 @@ append-made M (a ∷ aa) (b ∷ bb) s r w u = elim (test (lastKey (a ∷ aa)) (b
 
 -- ---- the operations ----
 module _ (S : State) (v : Sound S) (a : ℕ) (la : a < length (S .lists)) where
-  sortedA : Sorted (listOf S a)
-  sortedA = each-get Sorted (S .lists) a tt (v .sorted)
-
-  lowA : Low (S .levels) (listOf S a)
-  lowA = each-get (Low (S .levels)) (S .lists) a tt (v .low)
-
   pub sound-insert : (f : ℕ) (fs : List ℕ) (k h : ℕ) → S .free ≡ f ∷ fs → h ≤ S .levels → Sound (insertIn S a k h (f ∷ fs))
   sound-insert f fs k h e l =
       let n = node f k h in
-      sound-put S a (insert n (listOf S a)) fs la v (sorted-insert n (listOf S a) sortedA) (low-insert (S .levels) n (listOf S a) l lowA)
+      sound-put S a (insert n (listOf S a)) fs la v (sorted-insert n (listOf S a) (sorted-list S v a)) (low-insert (S .levels) n (listOf S a) l (low-list S v a))
       (λ s. rw e (elim (same? f s) [
         | same g q ↦ rw g (omega (arith, rw g at (times-insert s n (listOf S a))))
         | other g q ↦ rw g (omega (arith, rw g at (times-insert s n (listOf S a))))
@@ -194,11 +195,11 @@ module _ (S : State) (v : Sound S) (a : ℕ) (la : a < length (S .lists)) where
 
   pub sound-truncate : (n : ℕ) → Sound (doTruncate S a n)
   sound-truncate n =
-      sound-put S a (take n (listOf S a)) (freed (drop n (listOf S a)) (S .free)) la v (sorted-cut n (listOf S a) sortedA .0) (low-cut (S .levels) n (listOf S a) lowA .0)
+      sound-put S a (take n (listOf S a)) (freed (drop n (listOf S a)) (S .free)) la v (sorted-cut n (listOf S a) (sorted-list S v a) .0) (low-cut (S .levels) n (listOf S a) (low-list S v a) .0)
       (λ s. omega (arith, times-freed s (drop n (listOf S a)) (S .free), times-cut s n (listOf S a)))
 
   pub sound-level : Sound (doLevel S a)
-  sound-level = sound-put S a (levelFrom (S .levels) 1 (listOf S a)) (S .free) la v (sortL 1 (listOf S a) sortedA) (lowL 1 (listOf S a)) (λ s. rw (occL s 1 (listOf S a)) refl)
+  sound-level = sound-put S a (levelFrom (S .levels) 1 (listOf S a)) (S .free) la v (sortL 1 (listOf S a) (sorted-list S v a)) (lowL 1 (listOf S a)) (λ s. rw (occL s 1 (listOf S a)) refl)
     where
       aboveL : (t k : ℕ) (xs : List Node) → Above t xs → Above t (levelFrom (S .levels) k xs)
       aboveL t k [] q = q
@@ -219,13 +220,13 @@ module _ (S : State) (v : Sound S) (a : ℕ) (la : a < length (S .lists)) where
   module _ (b : ℕ) (lb : b < length (S .lists)) (ne : a ≢ b) where
     pub sound-split : (i : ℕ) → listOf S b ≡ [] → Sound (doSplit S a b i)
     sound-split i e =
-        let c = sorted-cut i (listOf S a) sortedA in
-        let w = low-cut (S .levels) i (listOf S a) lowA in
+        let c = sorted-cut i (listOf S a) (sorted-list S v a) in
+        let w = low-cut (S .levels) i (listOf S a) (low-list S v a) in
         sound-put2 S a b (take i (listOf S a)) (drop i (listOf S a)) la lb ne v (c .0) (w .0) (c .1) (w .1) (λ s. rw e (omega (arith, times-cut s i (listOf S a))))
 
     pub sound-append : Sound (doAppend S a b)
     sound-append =
-        let m = append-made (S .levels) (listOf S a) (listOf S b) sortedA (each-get Sorted (S .lists) b tt (v .sorted)) lowA (each-get (Low (S .levels)) (S .lists) b tt (v .low)) in
+        let m = append-made (S .levels) (listOf S a) (listOf S b) (sorted-list S v a) (sorted-list S v b) (low-list S v a) (low-list S v b) in
         sound-put2 S a b (append (listOf S a) (listOf S b)) [] la lb ne v (m .sorted) (m .low) tt tt (λ s. omega (arith, m .slots s))
 
 times-self : (s : ℕ) (y : Node) → times s (y ∷ []) ≡ timesFree s (y .slot ∷ [])
@@ -245,8 +246,8 @@ pub sound-remove : (S : State) → Sound S → (a : ℕ) → a < length (S .list
 sound-remove S v a la i l =
     let xs = listOf S a in
     let y = getD xs i (node N 0 0) in
-    let w = lowA S v a la in
-    sound-put S a (removeAt i xs) (y .slot ∷ S .free) la v (sorted-remove i xs (sortedA S v a la))
+    let w = low-list S v a in
+    sound-put S a (removeAt i xs) (y .slot ∷ S .free) la v (sorted-remove i xs (sorted-list S v a))
     (low-append (S .levels) (take i xs) (drop (suc i) xs) (low-cut (S .levels) i xs w .0) (low-cut (S .levels) (suc i) xs w .1))
     (λ s. omega (
       arith,

@@ -47,7 +47,8 @@ twos-even (suc M) (suc h) m k l e =
     let g = rw (pow-succ' 2 h) at e in
     elim (parity k) [ even f p ↦ rw f (omega (arith, twos-even M h m (k / 2) (omega arith) (omega arith))) | odd f p ↦ omega arith ]
 
-twos-odd : (M h k : ℕ) → h < M → twos M k ≡ h → (m : ℕ) × (k ≡ (2 * m + 1) * 2 ^ h)
+-- "the number of times 2 divides k, at most M": an odd multiple of 2 ^ h where h is below M, any multiple of it at M
+pub twos-odd : (M h k : ℕ) → h < M → twos M k ≡ h → (m : ℕ) × (k ≡ (2 * m + 1) * 2 ^ h)
 twos-odd zero h k l e = absurd (not-suc-le-zero l)
 twos-odd (suc M) zero k l e = elim (parity k) [ even f p ↦ absurd (suc-ne-zero (twos M (k / 2)) (rw f at e)) | odd f p ↦ (k / 2, omega arith) ]
 twos-odd (suc M) (suc h) k l e = elim (parity k) [
@@ -57,7 +58,7 @@ twos-odd (suc M) (suc h) k l e = elim (parity k) [
   | odd f p ↦ absurd (suc-ne-zero h (sym (rw f at e)))
 ]
 
-twos-top : (M k : ℕ) → twos M k ≡ M → (m : ℕ) × (k ≡ m * 2 ^ M)
+pub twos-top : (M k : ℕ) → twos M k ≡ M → (m : ℕ) × (k ≡ m * 2 ^ M)
 twos-top zero k e = (k, omega arith)
 twos-top (suc M) k e = elim (parity k) [
   | even f p ↦

@@ -17,3 +17,13 @@ pub mod Splitting
 pub mod Inserting
 pub mod Counting
 pub mod Composing
+pub mod Searching
+pub mod ByKey
+pub mod ByRank
+pub mod Allowed
+pub mod EveryCall
+pub mod Limits
+pub mod KeysAfter
+pub mod Runs
+pub mod Frame
+pub mod Leaves

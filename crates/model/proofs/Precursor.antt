@@ -16,7 +16,7 @@ use Rattle.model.specs.Walks.{go, ends, stops, keyIs, last}
 use Rattle.model.proofs.Tests.{Test, hit, miss, test}
 use Rattle.model.proofs.Walk.{last-le, last-zero, go-split, below-drop, below-smaller, above-smaller, smaller-le, place-is}
 
-further-add : (d n : ℕ) → further (suc d + n) ≡ suc (suc d + n)
+pub further-add : (d n : ℕ) → further (suc d + n) ≡ suc (suc d + n)
 further-add d n = further-pos (suc d + n) (omega arith)
   where
     further-pos : (k : ℕ) → 0 < k → further k ≡ suc k
@@ -24,7 +24,7 @@ further-add d n = further-pos (suc d + n) (omega arith)
     further-pos (suc k) l = refl
 
 -- the last of height h is found behind the last of a greater height
-last-last : (g h : ℕ) → h ≤ g → (aa : List Node) → last h aa ≡ last g aa + last h (drop (last g aa) aa)
+pub last-last : (g h : ℕ) → h ≤ g → (aa : List Node) → last h aa ≡ last g aa + last h (drop (last g aa) aa)
 last-last g h l [] = refl
 last-last g h l (y ∷ ys) = elim (test g (y .height)) [
   | hit e p ↦ rw (e, le-leb h (y .height) (omega arith)) (omega (arith, last-last g h l ys))
@@ -105,17 +105,21 @@ key-above t xs s i l k =
     let e : r + (i - r) ≡ i = omega arith in
     rw (getD-drop r xs (i - r) (node N 0 0), e) at b
 
+-- where stage h ends: at the last node of height h or more among those of smaller keys
+pub stop-is : (M t : ℕ) (xs : List Node) → Sorted xs → (h : ℕ) → h ≤ M → getD (stops M t 0 xs) (M - h) 0 ≡ last h (take (smaller t xs) xs)
+stop-is M t xs s h l =
+    let r = smaller t xs in
+    (rw (take-append-drop r xs) at (stops-split M h t 0 l (take r xs) (drop r xs) (below-smaller t xs) (above-smaller t xs s))) ∙ zero-add (last h (take r xs))
+
 -- the precursor that the walk finds at level l: stage h = l + 1
 pub precursor-is : (M t : ℕ) (xs : List Node) → Sorted xs → (h : ℕ) → h ≤ M → LastBelow h t xs (getD (stops M t 0 xs) (M - h) 0)
 precursor-is M t xs s h l =
     let r = smaller t xs in
     let a = take r xs in
-    let n = smaller-le t xs in
-    let len = length-take-le r xs n in
+    let len = length-take-le r xs (smaller-le t xs) in
     let m = last-le h a in
-    let e = rw (take-append-drop r xs) at (stops-split M h t 0 l a (drop r xs) (below-smaller t xs) (above-smaller t xs s)) in
-    let f : getD (stops M t 0 xs) (M - h) 0 ≡ last h a = e ∙ zero-add (last h a) in
-    rw f (record {
+    let n = smaller-le t xs in
+    rw (stop-is M t xs s h l) (record {
       within = omega arith;
       tall-enough = λ i q. rw (getD-take r xs i (node N 0 0) (omega arith)) at (last-node h a i q);
       below = λ i q. key-below t xs s i (omega arith);

@@ -13,7 +13,7 @@ use Rattle.model.specs.Nodes.{Node, node, N, at}
 use Rattle.model.specs.Walks.{go, asks}
 use Rattle.model.proofs.Tests.{Test, hit, miss, test}
 
-further-zero : (d : ℕ) → further d ≡ 0 → d ≡ 0
+pub further-zero : (d : ℕ) → further d ≡ 0 → d ≡ 0
 further-zero zero e = refl
 further-zero (suc d) e = omega arith
 

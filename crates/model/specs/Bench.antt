@@ -1,4 +1,4 @@
--- "Bench readings": P1 to P12, as one table under a single statement, computed. Rests on Calls.
+-- "Bench readings": P1 to P12, as one table under a single statement, computed. Rests on Calls and Sequences.
 use Prim.Native.Nat.{ℕ}
 use mathlib.Core.Path.{_≡_, refl}
 use mathlib.Core.List.{List, [], _∷_, map}
@@ -6,21 +6,18 @@ use Rattle.model.specs.Nodes.{Node, N, keys, slotAt}
 use Rattle.model.specs.Walks.{Stand, stand, precursors}
 use Rattle.model.specs.Arena.{State, encode, setUp, listOf}
 use Rattle.model.specs.Calls.{Call, search, insertKey, splitAt, splitKey, appendList, middle, level, Answer, answer, answerTo, resultOf}
-
-abbrev after : State → List Call → State
-after S [] = S
-after S (c ∷ cs) = after (resultOf S c) cs
+use Rattle.model.specs.Sequences.{resultsOf}
 
 -- "Q is 10, 20, 20, 30 levelled at M = 2".
 abbrev four : State
-four = after (setUp 2 2 8) (insertKey 0 10 0 ∷ insertKey 0 20 0 ∷ insertKey 0 20 0 ∷ insertKey 0 30 0 ∷ level 0 ∷ [])
+four = resultsOf (setUp 2 2 8) (insertKey 0 10 0 ∷ insertKey 0 20 0 ∷ insertKey 0 20 0 ∷ insertKey 0 30 0 ∷ level 0 ∷ [])
 
 abbrev Q : List Node
 Q = listOf four 0
 
 -- P10's lists: 10, 30 and 20, 40.
 abbrev two : State
-two = after (setUp 2 2 8) (insertKey 0 10 1 ∷ insertKey 0 30 0 ∷ insertKey 1 20 0 ∷ insertKey 1 40 2 ∷ [])
+two = resultsOf (setUp 2 2 8) (insertKey 0 10 1 ∷ insertKey 0 30 0 ∷ insertKey 1 20 0 ∷ insertKey 1 40 2 ∷ [])
 
 -- The precursor of a level: its slot and its rank.
 abbrev placed : List Stand → List (List ℕ)

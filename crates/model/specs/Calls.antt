@@ -2,6 +2,7 @@
 -- Rests on Walks, Lists, Arena and Passes.
 use Prim.Native.Nat.{ℕ, zero, suc, _+_, _*_}
 use mathlib.Core.Path.{_≡_}
+use mathlib.Core.Logic.{_≢_}
 use mathlib.Core.Bool.{Bool, true, false, cond}
 use mathlib.Core.List.{List, [], _∷_, _++_}
 use lib.Dec.{leb, ltb, eqb}
@@ -59,6 +60,26 @@ pub data Call : Type 0 where
   appendList : ℕ → ℕ → Call
   middle : ℕ → Call
   level : ℕ → Call
+
+-- The lists that a call names.
+abbrev pub names : Call → List ℕ
+names (search a k allowance) = a ∷ []
+names (read a i) = a ∷ []
+names (insertKey a k h) = a ∷ []
+names (removeKey a k) = a ∷ []
+names (removeIndex a i) = a ∷ []
+names (truncate a n) = a ∷ []
+names (clear a) = a ∷ []
+names (splitAt a b i) = a ∷ b ∷ []
+names (splitKey a b k) = a ∷ b ∷ []
+names (appendList a b) = a ∷ b ∷ []
+names (middle a) = a ∷ []
+names (level a) = a ∷ []
+
+-- b is none of these lists.
+abbrev pub Unnamed : ℕ → List ℕ → Type 0
+Unnamed b [] = Unit {0}
+Unnamed b (a ∷ cs) = (b ≢ a) × Unnamed b cs
 
 -- ---- refusals, "the lowest number that applies"; 0 where the call is accepted ----
 -- "3: a list number is L or more"; "4: the two lists named are the same"; "7: the receiving list isn't empty"; "8: index at or past the length".

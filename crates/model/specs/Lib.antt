@@ -7,5 +7,6 @@ pub mod Arena
 pub mod Cells
 pub mod Passes
 pub mod Calls
+pub mod Sequences
 pub mod Gaps
 pub mod Bench

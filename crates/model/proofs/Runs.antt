@@ -1,0 +1,71 @@
+-- Words and models determine each other, and so do runs of calls on words and on models: if every call keeps its promise of the words that the
+-- one before left, then all answers and the last words are those of the model. A library that "performs the first call and fakes later ones" has
+-- no such run. Rests on Records (words read back), EveryCall (every call leaves an arena that passes) and Unique (one call).
+use Prim.Native.Nat.{ℕ}
+use mathlib.Core.Path.{_≡_, refl, sym, ap, ap₂, _∙_, subst}
+use mathlib.Core.List.{List, [], _∷_, map}
+use lib.ListN.{length}
+use Rattle.model.specs.Arena.{State, encode, setUp}
+use Rattle.model.specs.Calls.{Call, Answer, answerTo, resultOf, refused, Promise, Room, SetUpPromise}
+use Rattle.model.specs.Passes.{decode, Sound, Sizes, Ranges, Passes}
+use Rattle.model.specs.Sequences.{answersTo, resultsOf, Run, done, next}
+use Rattle.model.proofs.Builds.{passes-encode}
+use Rattle.model.proofs.EveryCall.{passes-after, sound-after, sound-after-all, set-up-sound, set-up-sizes}
+use Rattle.model.proofs.Records.{decode-encode}
+use Rattle.model.proofs.Unique.{call-unique}
+
+-- ---- words and models ----
+-- two arenas that pass and hold the same model have the same words
+pub same-words : {w v : List ℕ} → Passes w → Passes v → decode w ≡ decode v → w ≡ v
+same-words p q e = p .words ∙ ap encode e ∙ sym (q .words)
+
+-- the words of a sound model are those of no other
+pub same-model : (S T : State) → Sound S → Sound T → encode S ≡ encode T → S ≡ T
+same-model S T v u e = sym (decode-encode S v) ∙ ap decode e ∙ decode-encode T u
+
+-- an arena passes exactly when it is the words of a sound model of the sizes allowed, which is then the one that it holds
+pub model-of : {w : List ℕ} (S : State) → Sound S → w ≡ encode S → decode w ≡ S
+model-of S v e = ap decode e ∙ decode-encode S v
+
+pub passes-model : {w : List ℕ} (S : State) → Sound S → Sizes S → w ≡ encode S → Passes w
+passes-model S v z e = subst Passes (sym e) (passes-encode S v z)
+
+-- ---- runs ----
+pub run-is : {w u : List ℕ} {cs : List Call} {rs : List Answer} → Run w cs rs u → Passes w
+    → (rs ≡ answersTo (decode w) cs) × (u ≡ encode (resultsOf (decode w) cs))
+run-is done p = (refl, p .words)
+run-is {w} (next {c = c} {cs = cs} q rest) p =
+    let T = resultOf (decode w) c in
+    let a = q .whole p in
+    let e = model-of T (sound-after (decode w) (p .sound) c) (a .1) in
+    let i = run-is rest (subst Passes (sym (a .1)) (passes-after w p c)) in
+    (ap₂ (λ (r : Answer) (rs : List Answer). r ∷ rs) (a .0) (i .0 ∙ ap (λ (S : State). answersTo S cs) e), i .1 ∙ ap (λ (S : State). encode (resultsOf S cs)) e)
+
+-- the model at the end of a run
+pub run-leaves : {w u : List ℕ} {cs : List Call} {rs : List Answer} → Run w cs rs u → Passes w → decode u ≡ resultsOf (decode w) cs
+run-leaves {w} {cs = cs} r p = model-of (resultsOf (decode w) cs) (sound-after-all (decode w) (p .sound) cs) (run-is r p .1)
+
+-- words that do not pass stay, and every call answers 1
+pub run-broken : {w u : List ℕ} {cs : List Call} {rs : List Answer} → Run w cs rs u → ¬ Passes w → (rs ≡ map (λ c. refused 1 0) cs) × (u ≡ w)
+run-broken done n = (refl, refl)
+run-broken {w} (next q rest) n =
+    let a = q .broken n in
+    let i = run-broken rest (subst (λ (v : List ℕ). ¬ Passes v) (sym (a .1)) n) in
+    (ap₂ (λ (r : Answer) (rs : List Answer). r ∷ rs) (a .0) (i .0), i .1 ∙ a .1)
+
+-- from any words, calls have one run
+pub run-unique : {w u v : List ℕ} {cs : List Call} {rs qs : List Answer} → Run w cs rs u → Run w cs qs v → (rs ≡ qs) × (u ≡ v)
+run-unique done done = (refl, refl)
+run-unique (next p r) (next {u = u} {cs = cs} {rs = qs} q s) =
+    let a = call-unique p q in
+    let i = run-unique r (subst (λ (x : List ℕ). Run x cs qs u) (sym (a .1)) s) in
+    (ap₂ (λ (x : Answer) (xs : List Answer). x ∷ xs) (a .0) (i .0), i .1)
+
+-- from a set-up on
+pub run-from-set-up : {L M C n : ℕ} {before w u : List ℕ} {cs : List Call} {rs : List Answer} → SetUpPromise L M C before w n → Room L M C (length before) → Run w cs rs u
+    → (rs ≡ answersTo (setUp L M C) cs) × (u ≡ encode (resultsOf (setUp L M C) cs))
+run-from-set-up {L} {M} {C} {cs = cs} p r run =
+    let a = p .right r .1 in
+    let i = run-is run (passes-model (setUp L M C) (set-up-sound L M C) (set-up-sizes L M C (r .ranges)) a) in
+    let e = model-of (setUp L M C) (set-up-sound L M C) a in
+    (i .0 ∙ ap (λ (S : State). answersTo S cs) e, i .1 ∙ ap (λ (S : State). encode (resultsOf S cs)) e)
