@@ -1,0 +1,58 @@
+-- From the tests of a call to what it keeps: a refusal, an accepted call, a call that only reads. Rests on specs/Kept.
+use Prim.Native.Nat.{ℕ, suc, _+_, _*_, _≤_, _<_}
+use mathlib.Core.Path.{_≡_, refl, sym, ap, _∙_}
+use mathlib.Core.Logic.{_≢_}
+use mathlib.Core.Bool.{Bool, true, false, cond}
+use mathlib.Core.List.{List}
+use lib.Dec.{eqb, leb, ltb}
+use lib.ListN.{length, getD}
+use native.Mathlib.Omega.{arith}
+use borrow.Author.Tests.{lt-ltb, le-ltb, le-leb, lt-leb, eq-eqb, ne-eqb}
+use Rattle.model.specs.Arena.{State, encode, listOf}
+use Rattle.model.specs.Passes.{decode, Passes}
+use Rattle.model.specs.Calls.{Call, Answer, answer, refusal, accepted, refused, allowanceOf, performed, answerTo, resultOf, row3, row8}
+use Rattle.arena.proofs.Places.{length-encode}
+use Rattle.checked.specs.Kept.{Kept}
+
+-- ---- the rows ----
+pub row3-refuses : (S : State) (a later : ℕ) → length (S .lists) ≤ a → row3 S a later ≡ 3
+row3-refuses S a later l = rw (le-ltb a (length (S .lists)) l) refl
+
+pub row3-passes : (S : State) (a later : ℕ) → a < length (S .lists) → row3 S a later ≡ later
+row3-passes S a later l = rw (lt-ltb a (length (S .lists)) l) refl
+
+-- ---- what is kept ----
+same-either : {A : Type 0} (b : Bool) (x : A) → cond b x x ≡ x
+same-either true x = refl
+same-either false x = refl
+
+module _ {w : List ℕ} (p : Passes w) where
+  pub refuses : (c : Call) (n : ℕ) → refusal (decode w) c ≡ n → n ≢ 0 → n ≢ 10 → Kept c w w (answer n 0 0 0 0)
+  refuses c n e z t =
+      rw (sym e) (record {
+        answered = rw (ne-eqb (refusal (decode w) c) 0 (λ q. z (sym e ∙ q)), ne-eqb (refusal (decode w) c) 10 (λ q. t (sym e ∙ q))) refl;
+        left = rw (ne-eqb (refusal (decode w) c) 0 (λ q. z (sym e ∙ q))) (p .words);
+      })
+
+  pub accepts : (c : Call) {u : List ℕ} {r : Answer} → refusal (decode w) c ≡ 0 → r ≡ accepted (decode w) c → u ≡ encode (performed (decode w) c) → Kept c w u r
+  accepts c e a b = record { answered = rw (eq-eqb (refusal (decode w) c) 0 e) a; left = rw (eq-eqb (refusal (decode w) c) 0 e) b }
+
+  -- a call that changes nothing
+  pub reads : (c : Call) {r : Answer} → performed (decode w) c ≡ decode w → r ≡ answerTo (decode w) c → Kept c w w r
+  reads c e a = record {
+    answered = a;
+    left = p .words ∙ ap encode (sym (ap (λ (S : State). cond (eqb (refusal (decode w) c) 0) S (decode w)) e ∙ same-either (eqb (refusal (decode w) c) 0) (decode w)));
+  }
+
+-- ---- the header ----
+pub header-lists : (w : List ℕ) → Passes w → getD w 2 0 ≡ length (decode w .lists)
+header-lists w p = ap (λ (u : List ℕ). getD u 2 0) (p .words)
+
+pub header-levels : (w : List ℕ) → Passes w → getD w 3 0 ≡ decode w .levels
+header-levels w p = refl
+
+pub header-free : (w : List ℕ) → Passes w → getD w 6 0 ≡ length (decode w .free)
+header-free w p = ap (λ (u : List ℕ). getD u 6 0) (p .words)
+
+pub has-header : (w : List ℕ) → Passes w → 8 ≤ length w
+has-header w p = omega (arith, ap length (p .words) ∙ length-encode (decode w))

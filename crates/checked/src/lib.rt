@@ -1,0 +1,60 @@
+// Every call on an arena that has passed the check: the later refusals in document 01's order, then one core function.
+
+ghost use mathlib.Core.Path.{_≡_};
+ghost use lib.ListN.{length};
+ghost use Rattle.model.specs.Passes.{decode, Passes};
+use arena::Index;
+
+// Why a call on an arena is refused, but for the search's allowance.
+pub enum Refusal {
+    Broken,
+    NoList,
+    SameList,
+    TooHigh,
+    Full,
+    NotEmpty,
+    PastEnd,
+    NoKey,
+}
+
+// What a search answers: an index or a place, with the tally; or the allowance that the tally is above.
+pub enum Search {
+    Found(Index, u32),
+    Missing(Index, u32),
+    Beyond(u32),
+    Refused(Refusal),
+}
+
+// What a call that answers a key answers.
+pub enum Key {
+    Is(u32),
+    Refused(Refusal),
+}
+
+// What a call that answers nothing more answers.
+pub enum Done {
+    Accepted,
+    Refused(Refusal),
+}
+
+// Words 2, 3 and 6 of the header: how many lists, levels and free slots there are.
+fn lists(w: &[u32]) -> u32
+    requires { ⌜ Passes (now w) ⌝ }
+    ensures { λ r. ⌜ r ≡ length (decode (now (w .entry)) .lists) ⌝ }
+{
+    arena::header(w, 2)
+}
+
+fn levels(w: &[u32]) -> usize
+    requires { ⌜ Passes (now w) ⌝ }
+    ensures { λ r. ⌜ r ≡ decode (now (w .entry)) .levels ⌝ }
+{
+    arena::wide(arena::header(w, 3))
+}
+
+fn free(w: &[u32]) -> u32
+    requires { ⌜ Passes (now w) ⌝ }
+    ensures { λ r. ⌜ r ≡ length (decode (now (w .entry)) .free) ⌝ }
+{
+    arena::header(w, 6)
+}
