@@ -44,6 +44,19 @@ impl Rank {
         Index(self.0 - Rank::FIRST.0)
     }
 
+    // The rank just before an index, and the index just after a rank.
+    pub fn before(i: Index) -> Rank
+        ensures { λ r. ⌜ r .0 ≡ i .0 ⌝ }
+    {
+        Rank(i.0)
+    }
+
+    pub fn after(self) -> Index
+        ensures { λ r. ⌜ r .0 ≡ self .0 ⌝ }
+    {
+        Index(self.0)
+    }
+
     // The rank that a link of distance d leads to.
     pub fn plus(self, d: u32) -> Rank
         requires { ⌜ self .0 + d < 4294967296 ⌝ }

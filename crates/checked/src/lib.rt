@@ -1,4 +1,7 @@
 // Every call on an arena that has passed the check: the later refusals in document 01's order, then one core function.
+mod reading;
+
+pub use reading::search;
 
 ghost use mathlib.Core.Path.{_≡_};
 ghost use lib.ListN.{length};

@@ -92,16 +92,16 @@ sound-performed S v (level a) p = sound-level S v a p
 pub sound-after : (S : State) → Sound S → (c : Call) → Sound (resultOf S c)
 sound-after S v c = after-any Sound S c (sound-performed S v c) v
 
-pub kept : (S : State) → Sound S → Sizes S → (c : Call) → Sound (resultOf S c) × Sizes (resultOf S c)
-kept S v z c = (sound-after S v c, alike-sizes (alike-after S c) z)
+pub kept : {S : State} → Sound S → Sizes S → (c : Call) → Sound (resultOf S c) × Sizes (resultOf S c)
+kept {S} v z c = (sound-after S v c, alike-sizes (alike-after S c) z)
 
 -- any number of calls
 pub sound-after-all : (S : State) → Sound S → (cs : List Call) → Sound (resultsOf S cs)
 sound-after-all S v [] = v
 sound-after-all S v (c ∷ cs) = sound-after-all (resultOf S c) (sound-after S v c) cs
 
-pub passes-after : (w : List ℕ) → Passes w → (c : Call) → Passes (encode (resultOf (decode w) c))
-passes-after w p c = let k = kept (decode w) (p .sound) (p .sizes) c in passes-encode (resultOf (decode w) c) (k .0) (k .1)
+pub passes-after : {w : List ℕ} → Passes w → (c : Call) → Passes (encode (resultOf (decode w) c))
+passes-after {w} p c = let k = kept (p .sound) (p .sizes) c in passes-encode (resultOf (decode w) c) (k .0) (k .1)
 
 -- ---- set-up ----
 each-empty : (P : List Node → Type 0) → P [] → (n : ℕ) → Each P (replicate n [])
@@ -138,10 +138,10 @@ set-up-sound L M C =
       no-more = λ s p. omega (arith, times-empty s L, up-after s L C (omega arith));
     }
 
-pub set-up-sizes : (L M C : ℕ) → Ranges L M C → Sizes (setUp L M C)
-set-up-sizes L M C r =
+pub set-up-sizes : {L M C : ℕ} → Ranges L M C → Sizes (setUp L M C)
+set-up-sizes {L} {M} {C} r =
     let n : length (setUp L M C .lists) ≡ L = length-replicate L [] in
     rw n r
 
-pub set-up-passes : (L M C : ℕ) → Ranges L M C → Passes (encode (setUp L M C))
-set-up-passes L M C r = passes-encode (setUp L M C) (set-up-sound L M C) (set-up-sizes L M C r)
+pub set-up-passes : {L M C : ℕ} → Ranges L M C → Passes (encode (setUp L M C))
+set-up-passes {L} {M} {C} r = passes-encode (setUp L M C) (set-up-sound L M C) (set-up-sizes r)

@@ -27,3 +27,5 @@ pub mod KeysAfter
 pub mod Runs
 pub mod Frame
 pub mod Leaves
+pub mod Refusals
+pub mod Stay

@@ -38,7 +38,7 @@ run-is {w} (next {c = c} {cs = cs} q rest) p =
     let T = resultOf (decode w) c in
     let a = q .whole p in
     let e = model-of T (sound-after (decode w) (p .sound) c) (a .1) in
-    let i = run-is rest (subst Passes (sym (a .1)) (passes-after w p c)) in
+    let i = run-is rest (subst Passes (sym (a .1)) (passes-after p c)) in
     (ap₂ (λ (r : Answer) (rs : List Answer). r ∷ rs) (a .0) (i .0 ∙ ap (λ (S : State). answersTo S cs) e), i .1 ∙ ap (λ (S : State). encode (resultsOf S cs)) e)
 
 -- the model at the end of a run
@@ -66,6 +66,6 @@ pub run-from-set-up : {L M C n : ℕ} {before w u : List ℕ} {cs : List Call} {
     → (rs ≡ answersTo (setUp L M C) cs) × (u ≡ encode (resultsOf (setUp L M C) cs))
 run-from-set-up {L} {M} {C} {cs = cs} p r run =
     let a = p .right r .1 in
-    let i = run-is run (passes-model (setUp L M C) (set-up-sound L M C) (set-up-sizes L M C (r .ranges)) a) in
+    let i = run-is run (passes-model (setUp L M C) (set-up-sound L M C) (set-up-sizes (r .ranges)) a) in
     let e = model-of (setUp L M C) (set-up-sound L M C) a in
     (i .0 ∙ ap (λ (S : State). answersTo S cs) e, i .1 ∙ ap (λ (S : State). encode (resultsOf S cs)) e)

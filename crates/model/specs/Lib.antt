@@ -7,6 +7,7 @@ pub mod Arena
 pub mod Cells
 pub mod Passes
 pub mod Calls
+pub mod Refusals
 pub mod Sequences
 pub mod Gaps
 pub mod Bench

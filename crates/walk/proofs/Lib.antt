@@ -1,3 +1,4 @@
 pub mod Looks
 pub mod Seeking
 pub mod Turns
+pub mod Answering

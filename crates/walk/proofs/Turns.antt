@@ -106,11 +106,11 @@ next-far {w} {m} {a} {i} {s} {r} g e ne = let k = ahead g e ne in one (drop r (n
     one (y ∷ ys) d f = rw (le-leb 0 (y .height) (omega arith)) refl
 
 module _ {w : List ℕ} {m a t r₀ n₀ s r n : ℕ} (g : Going w m a 0 t r₀ n₀ s r n) {allowance : ℕ} (l : n₀ ≤ allowance) (to : ℕ) (e : to ≡ target 0 (drop r (nodes w a))) where
-  pub ends-absent : to ≡ N → Ended w a t allowance r₀ n₀ false r (allowance - n)
-  ends-absent z =
+  pub ends-absent : to ≡ N → (i : ℕ) → i ≡ r → Ended w a t allowance r₀ n₀ false i (allowance - n)
+  ends-absent z i j =
       let k = stop-absent g to e z in
       elim (look (g .at .owner) to e) [
-        | nothing x d ↦ record { place = k .rank; is = key-none t (drop r (nodes w a)) d; spent = omega (arith, k .left, g .fall); within = omega arith }
+        | nothing x d ↦ rw j (record { place = k .rank; is = key-none t (drop r (nodes w a)) d; spent = omega (arith, k .left, g .fall); within = omega arith })
         | there d x y o ↦ absurd (omega arith)
       ]
 
@@ -123,8 +123,8 @@ module _ {w : List ℕ} {m a t r₀ n₀ s r n : ℕ} (g : Going w m a 0 t r₀ 
         let k = stop-other g to e ne pos met f p in
         rw j (record { place = k .rank; is = key-met ∙ q; spent = omega (arith, k .left, g .fall); within = omega arith })
 
-    pub ends-greater : t < met → Ended w a t allowance r₀ n₀ false r (allowance - (n - 1))
-    ends-greater p = ends-at false (ne-eqb met t (λ z. omega arith)) (omega arith) r refl
+    pub ends-greater : t < met → (i : ℕ) → i ≡ r → Ended w a t allowance r₀ n₀ false i (allowance - (n - 1))
+    ends-greater p i j = ends-at false (ne-eqb met t (λ z. omega arith)) (omega arith) i j
 
     pub ends-equal : t ≡ met → (i : ℕ) → i ≡ r → Ended w a t allowance r₀ n₀ true i (allowance - (n - 1))
     ends-equal p i j = ends-at true (eq-eqb met t (sym p)) (omega arith) i j

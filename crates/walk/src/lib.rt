@@ -65,7 +65,7 @@ pub fn seek(w: &[u32], m: usize, list: Slot, i: Index) -> Path
 {
     let mut slots = [list.0; 16];
     let mut ranks = [0u32; 16];
-    let limit = Rank(i.0);
+    let limit = Rank::before(i);
     let mut v = Spot {
         slot: list,
         rank: Rank::HEAD,
@@ -137,7 +137,7 @@ fn follow(w: &[u32], m: usize, list: Slot, key: u32, allowance: u32, from: Visit
     loop {
         let to = arena::cell(w, m, v.slot, 2);
         if to == Slot::NONE.0 {
-            return Searched::Missing(Index(v.rank.0), allowance - v.left);
+            return Searched::Missing(v.rank.after(), allowance - v.left);
         }
         if v.left == 0 {
             return Searched::Beyond(allowance);
@@ -146,7 +146,7 @@ fn follow(w: &[u32], m: usize, list: Slot, key: u32, allowance: u32, from: Visit
         let next = Slot(to);
         let met = arena::cell(w, m, next, 0);
         if key < met {
-            return Searched::Missing(Index(v.rank.0), allowance - v.left);
+            return Searched::Missing(v.rank.after(), allowance - v.left);
         }
         if key == met {
             return Searched::Found(v.rank.plus(1).to_index(), allowance - v.left);

@@ -10,6 +10,7 @@ use Rattle.walk.proofs.follow.Statement.{statement}
 use Rattle.walk.proofs.follow.Tie as tie
 use Rattle.walk.proofs.follow.Reads as reads
 use Rattle.walk.proofs.follow.Lts as lts
+use Rattle.arena.proofs.Rank.after.Reads as after-reads
 use Rattle.arena.proofs.Rank.plus.Reads as plus-reads
 use Rattle.arena.proofs.Rank.to_index.Reads as to-index-reads
 use Rattle.arena.proofs.cell.Reads as cell-reads
@@ -29,13 +30,17 @@ loop-holds c = λ a g. going-start g
 cell-requires : tie.Need-cell-requires Inv-loop μ-loop
 cell-requires c κs = let g = c .loop .inv _ (c .before .before .pre .0) in cell-here (g .at) 2 (omega arith)
 
--- src/lib.rt:140:55
+-- src/lib.rt:140:38
+after-requires : tie.Need-after-requires Inv-loop μ-loop
+after-requires c κs = tt
+
+-- src/lib.rt:140:54
 sub-t15 : tie.Need-sub-t15 Inv-loop μ-loop
-sub-t15 c = let g = c .before .before .before .before .loop .inv _ (c .before .before .before .before .before .before .pre .0) in omega (arith, g .fall, c .before .before .before .before .before .before .pre .1)
+sub-t15 c = let g = c .before .before .before .before .before .loop .inv _ (c .before .before .before .before .before .before .before .pre .0) in omega (arith, g .fall, c .before .before .before .before .before .before .before .pre .1)
 
 -- src/lib.rt:140:13
 returns : tie.Need-returns Inv-loop μ-loop
-returns c = let g = c .before .before .before .before .loop .inv _ (c .before .before .before .before .before .before .pre .0) in ends-absent g (c .before .before .before .before .before .before .pre .1) _ (c .before .before .before .cell .ensures ∙ next-word (g .at)) (c .before .if1 .taken)
+returns c = let g = c .before .before .before .before .before .loop .inv _ (c .before .before .before .before .before .before .before .pre .0) in ends-absent g (c .before .before .before .before .before .before .before .pre .1) _ (c .before .before .before .before .cell .ensures ∙ next-word (g .at)) (c .before .before .if1 .taken) _ (c .before .after .ensures)
 
 -- src/lib.rt:143:13
 returns-2 : tie.Need-returns-2 Inv-loop μ-loop
@@ -49,13 +54,17 @@ sub-v c = omega arith
 cell-requires-2 : tie.Need-cell-requires-2 Inv-loop μ-loop
 cell-requires-2 c κs = let g = c .before .before .before .before .before .before .loop .inv _ (c .before .before .before .before .before .before .before .before .pre .0) in key-cell g _ (c .before .before .before .before .before .cell .ensures ∙ next-word (g .at)) (c .before .before .before .if1 .left)
 
--- src/lib.rt:149:55
+-- src/lib.rt:149:38
+after-requires-2 : tie.Need-after-requires-2 Inv-loop μ-loop
+after-requires-2 c κs = tt
+
+-- src/lib.rt:149:54
 sub-t17 : tie.Need-sub-t17 Inv-loop μ-loop
-sub-t17 c = let g = c .before .before .before .before .before .before .before .before .before .loop .inv _ (c .before .before .before .before .before .before .before .before .before .before .before .pre .0) in omega (arith, g .fall, c .before .before .before .before .before .before .before .before .before .before .before .pre .1)
+sub-t17 c = let g = c .before .before .before .before .before .before .before .before .before .before .loop .inv _ (c .before .before .before .before .before .before .before .before .before .before .before .before .pre .0) in omega (arith, g .fall, c .before .before .before .before .before .before .before .before .before .before .before .before .pre .1)
 
 -- src/lib.rt:149:13
 returns-3 : tie.Need-returns-3 Inv-loop μ-loop
-returns-3 c = let g = c .before .before .before .before .before .before .before .before .before .loop .inv _ (c .before .before .before .before .before .before .before .before .before .before .before .pre .0) in ends-greater g (c .before .before .before .before .before .before .before .before .before .before .before .pre .1) _ (c .before .before .before .before .before .before .before .before .cell .ensures ∙ next-word (g .at)) (c .before .before .before .before .before .before .if1 .left) (c .before .before .before .before .if2 .left) _ (c .before .before .cell2 .ensures) (c .before .if3 .taken)
+returns-3 c = let g = c .before .before .before .before .before .before .before .before .before .before .loop .inv _ (c .before .before .before .before .before .before .before .before .before .before .before .before .pre .0) in ends-greater g (c .before .before .before .before .before .before .before .before .before .before .before .before .pre .1) _ (c .before .before .before .before .before .before .before .before .before .cell .ensures ∙ next-word (g .at)) (c .before .before .before .before .before .before .before .if1 .left) (c .before .before .before .before .before .if2 .left) _ (c .before .before .before .cell2 .ensures) (c .before .before .if3 .taken) _ (c .before .after2 .ensures)
 
 -- src/lib.rt:152:36
 plus-requires : tie.Need-plus-requires Inv-loop μ-loop
@@ -93,11 +102,13 @@ follow-spec =
     μ-loop
     loop-holds
     cell-requires
+    after-requires
     sub-t15
     returns
     returns-2
     sub-v
     cell-requires-2
+    after-requires-2
     sub-t17
     returns-3
     plus-requires
