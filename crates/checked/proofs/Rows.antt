@@ -34,6 +34,10 @@ module _ {w : List ℕ} (p : Passes w) where
         left = rw (ne-eqb (refusal (decode w) c) 0 (λ q. z (sym e ∙ q))) (p .words);
       })
 
+  -- "3: a list number is L or more", where it is the first row that is asked
+  pub no-list : (c : Call) (a later : ℕ) → refusal (decode w) c ≡ row3 (decode w) a later → length (decode w .lists) ≤ a → Kept c w w (answer 3 0 0 0 0)
+  no-list c a later e l = refuses c 3 (e ∙ row3-refuses (decode w) a later l) (λ z. omega (arith, z)) (λ z. omega (arith, z))
+
   pub accepts : (c : Call) {u : List ℕ} {r : Answer} → refusal (decode w) c ≡ 0 → r ≡ accepted (decode w) c → u ≡ encode (performed (decode w) c) → Kept c w u r
   accepts c e a b = record { answered = rw (eq-eqb (refusal (decode w) c) 0 e) a; left = rw (eq-eqb (refusal (decode w) c) 0 e) b }
 

@@ -21,7 +21,7 @@ pub enum Refusal {
 }
 
 // What a search answers: an index or a place, with the tally; or the allowance that the tally is above.
-pub enum Search {
+pub enum SearchAnswer {
     Found(Index, u32),
     Missing(Index, u32),
     Beyond(u32),
@@ -29,13 +29,13 @@ pub enum Search {
 }
 
 // What a call that answers a key answers.
-pub enum Key {
+pub enum KeyAnswer {
     Is(u32),
     Refused(Refusal),
 }
 
 // What a call that answers nothing more answers.
-pub enum Done {
+pub enum PlainAnswer {
     Accepted,
     Refused(Refusal),
 }

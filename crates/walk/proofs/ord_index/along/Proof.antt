@@ -6,10 +6,10 @@ use Rattle.model.specs.Passes.{nodes}
 use Rattle.walk.specs.Standing.{At}
 use Rattle.walk.proofs.Looks.{small, few, cell-here, to-word, far-word}
 use Rattle.walk.proofs.Turns.{Going, going-start, stop-absent, key-cell, run-out, stop-other, go-there}
-use Rattle.walk.proofs.along.Statement.{statement}
-use Rattle.walk.proofs.along.Tie as tie
-use Rattle.walk.proofs.along.Reads as reads
-use Rattle.walk.proofs.along.Lts as lts
+use Rattle.walk.proofs.ord_index.along.Statement.{statement}
+use Rattle.walk.proofs.ord_index.along.Tie as tie
+use Rattle.walk.proofs.ord_index.along.Reads as reads
+use Rattle.walk.proofs.ord_index.along.Lts as lts
 use Rattle.arena.proofs.Rank.plus.Reads as plus-reads
 use Rattle.arena.proofs.cell.Reads as cell-reads
 

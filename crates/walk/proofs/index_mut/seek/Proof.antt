@@ -4,13 +4,13 @@ use native.Mathlib.Omega.{arith}
 use Rattle.walk.specs.Standing.{At, Sought}
 use Rattle.walk.proofs.Looks.{small, down-to}
 use Rattle.walk.proofs.Seeking.{at-head, Noted, noted-none, noted-all, noted-more}
-use Rattle.walk.proofs.seek.Statement.{statement}
-use Rattle.walk.proofs.seek.Tie as tie
-use Rattle.walk.proofs.seek.Reads as reads
-use Rattle.walk.proofs.seek.Lts as lts
+use Rattle.walk.proofs.index_mut.seek.Statement.{statement}
+use Rattle.walk.proofs.index_mut.seek.Tie as tie
+use Rattle.walk.proofs.index_mut.seek.Reads as reads
+use Rattle.walk.proofs.index_mut.seek.Lts as lts
 use Rattle.arena.proofs.Rank.before.Reads as before-reads
-use Rattle.walk.proofs.seek_level.Reads as seek-level-reads
-use Rattle.walk.proofs.seek_next.Reads as seek-next-reads
+use Rattle.walk.proofs.index_mut.seek_level.Reads as seek-level-reads
+use Rattle.walk.proofs.index_mut.seek_next.Reads as seek-next-reads
 
 abbrev Inv-loop : tie.InvT-loop
 Inv-loop w m list slots₀ ranks₀ limit v₀ level₀ slots ranks v level = At w m (list .0) (limit .0) level (v .slot .0) (v .rank .0) × Noted w m (list .0) (limit .0) level slots ranks
@@ -57,9 +57,10 @@ loop-less c = omega (arith, c .before .loop-test .taken)
 -- src/lib.rt:74:5
 loop-again : tie.Need-loop-again Inv-loop μ-loop
 loop-again c = let n = c .before .before .loop .inv .1 in
-    let g = c .before .before .loop .inv .0 in
-    (down-to (c .seek-level .ensures .at) (c .before .before .loop .level - 1) (omega arith),
-    noted-more (c .before .before .loop .level - 1) (omega (arith, c .before .loop-test .taken)) (omega (arith, small g, g .owner .level, g .levels, c .before .loop-test .taken)) (c .seek-level .ensures) n)
+    let g = c .before .before .loop .inv .0 in (
+      down-to (c .seek-level .ensures .at) (c .before .before .loop .level - 1) (omega arith),
+      noted-more (c .before .before .loop .level - 1) (omega (arith, c .before .loop-test .taken)) (omega (arith, small g, g .owner .level, g .levels, c .before .loop-test .taken)) (c .seek-level .ensures) n,
+    )
 
 -- src/lib.rt:81:9
 seek-next-requires : tie.Need-seek-next-requires Inv-loop μ-loop

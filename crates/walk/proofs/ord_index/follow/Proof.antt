@@ -6,10 +6,10 @@ use Rattle.model.specs.Passes.{nodes}
 use Rattle.walk.specs.Standing.{At}
 use Rattle.walk.proofs.Looks.{few, cell-here, next-word}
 use Rattle.walk.proofs.Turns.{Going, going-start, key-cell, run-out, go-there, next-far, ends-absent, ends-greater, ends-equal}
-use Rattle.walk.proofs.follow.Statement.{statement}
-use Rattle.walk.proofs.follow.Tie as tie
-use Rattle.walk.proofs.follow.Reads as reads
-use Rattle.walk.proofs.follow.Lts as lts
+use Rattle.walk.proofs.ord_index.follow.Statement.{statement}
+use Rattle.walk.proofs.ord_index.follow.Tie as tie
+use Rattle.walk.proofs.ord_index.follow.Reads as reads
+use Rattle.walk.proofs.ord_index.follow.Lts as lts
 use Rattle.arena.proofs.Rank.after.Reads as after-reads
 use Rattle.arena.proofs.Rank.plus.Reads as plus-reads
 use Rattle.arena.proofs.Rank.to_index.Reads as to-index-reads

@@ -4,8 +4,8 @@ use native.Mathlib.Omega.{arith}
 use Rattle.walk.specs.Standing.{At, Sought}
 use Rattle.walk.proofs.Looks.{small, few, cell-here}
 use Rattle.walk.proofs.Seeking.{ends-here, ends-there, goes-on}
-use Rattle.walk.proofs.seek_level.Statement.{statement}
-use Rattle.walk.proofs.seek_level.Tie as tie
+use Rattle.walk.proofs.index_mut.seek_level.Statement.{statement}
+use Rattle.walk.proofs.index_mut.seek_level.Tie as tie
 
 abbrev Inv-loop : tie.InvT-loop
 Inv-loop w m l limit v₀ v = (a : ℕ) → At w m a (limit .0) (suc l) (v₀ .slot .0) (v₀ .rank .0) → At w m a (limit .0) (suc l) (v .slot .0) (v .rank .0)

@@ -3,12 +3,12 @@ use native.Mathlib.Omega.{arith}
 use borrow.Author.Needs.{needs}
 use Rattle.walk.proofs.Looks.{down-to}
 use Rattle.walk.proofs.Answering.{Descending, descending-start, descending-more, beyond-above, search-beyond, search-ended}
-use Rattle.walk.proofs.search.Statement.{statement}
-use Rattle.walk.proofs.search.Tie as tie
-use Rattle.walk.proofs.search.Reads as reads
-use Rattle.walk.proofs.search.Lts as lts
-use Rattle.walk.proofs.along.Reads as along-reads
-use Rattle.walk.proofs.follow.Reads as follow-reads
+use Rattle.walk.proofs.ord_index.search.Statement.{statement}
+use Rattle.walk.proofs.ord_index.search.Tie as tie
+use Rattle.walk.proofs.ord_index.search.Reads as reads
+use Rattle.walk.proofs.ord_index.search.Lts as lts
+use Rattle.walk.proofs.ord_index.along.Reads as along-reads
+use Rattle.walk.proofs.ord_index.follow.Reads as follow-reads
 
 abbrev Inv-loop : tie.InvT-loop
 Inv-loop w m list key allowance v₀ level₀ v level = Descending w m (list .0) key allowance level (v .slot .0) (v .rank .0) (v .left)

@@ -4,8 +4,8 @@ use native.Mathlib.Omega.{arith}
 use Rattle.walk.specs.Standing.{At}
 use Rattle.walk.proofs.Looks.{few, cell-here}
 use Rattle.walk.proofs.Seeking.{steps, arrived}
-use Rattle.walk.proofs.seek_next.Statement.{statement}
-use Rattle.walk.proofs.seek_next.Tie as tie
+use Rattle.walk.proofs.index_mut.seek_next.Statement.{statement}
+use Rattle.walk.proofs.index_mut.seek_next.Tie as tie
 
 abbrev Inv-loop : tie.InvT-loop
 Inv-loop w m limit v₀ v = (a : ℕ) → At w m a (limit .0) 0 (v₀ .slot .0) (v₀ .rank .0) → At w m a (limit .0) 0 (v .slot .0) (v .rank .0)

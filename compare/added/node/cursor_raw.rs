@@ -1,0 +1,1 @@
+//! The crate's cursors are not taken; `node.rs` names this module.

@@ -1,0 +1,75 @@
+// Module 3: the walk by rank, with the precursors and their ranks.
+ghost use mathlib.Core.Path.{_≡_};
+ghost use Prim.Native.Nat.{suc, _≤_};
+ghost use lib.ListN.{length};
+ghost use Rattle.model.specs.Nodes.{slotAt};
+ghost use Rattle.model.specs.Passes.{nodes};
+ghost use Rattle.arena.specs.Owners.{Listed, Leads};
+ghost use Rattle.walk.specs.Standing.{At, Sought};
+use crate::Spot;
+use arena::Index;
+use arena::Path;
+use arena::Rank;
+use arena::Slot;
+
+// Along level l, as far as rank `limit`.
+fn seek_level(w: &[u32], m: usize, l: usize, list: Slot, from: Spot, limit: Rank) -> Spot
+    requires { ⌜ At (now w) m (list .0) (limit .0) (suc l) (from .slot .0) (from .rank .0) ⌝ }
+    ensures { λ z. ⌜ Sought (now (w .entry)) m (list .0) (limit .0) (suc l) (z .slot .0) (z .rank .0) ⌝ }
+{
+    let mut v = from;
+    loop {
+        let far = arena::cell(w, m, v.slot, 5 + 2 * l);
+        if far == 0 {
+            return v;
+        }
+        if limit.0 - v.rank.0 < far {
+            return v;
+        }
+        let to = arena::cell(w, m, v.slot, 4 + 2 * l);
+        v = Spot {
+            slot: Slot(to),
+            rank: v.rank.plus(far),
+        };
+    }
+}
+
+// By next to rank `limit`.
+fn seek_next(w: &[u32], m: usize, list: Slot, from: Spot, limit: Rank) -> Slot
+    requires { ⌜ At (now w) m (list .0) (limit .0) 0 (from .slot .0) (from .rank .0) ⌝ }
+    ensures { λ z. ⌜ z .0 ≡ slotAt (list .0) (nodes (now (w .entry)) (list .0)) (limit .0) ⌝ }
+{
+    let mut v = from;
+    while v.rank.0 < limit.0 {
+        let to = arena::cell(w, m, v.slot, 2);
+        v = Spot {
+            slot: Slot(to),
+            rank: v.rank.plus(1),
+        };
+    }
+    v.slot
+}
+
+// The walk by rank to index i, stopped one short: the precursors, and the slot just before the index.
+pub fn seek(w: &[u32], m: usize, list: Slot, i: Index) -> Path
+    requires { ⌜ Listed (now w) m (list .0) × (i .0 ≤ length (nodes (now w) (list .0))) ⌝ }
+    ensures { λ p. ⌜ Leads (now (w .entry)) m (list .0) (i .0) p ⌝ }
+{
+    let mut slots = [list.0; 16];
+    let mut ranks = [0u32; 16];
+    let limit = Rank::before(i);
+    let mut v = Spot {
+        slot: list,
+        rank: Rank::HEAD,
+    };
+    let mut level = m;
+    while 0 < level {
+        let l = level - 1;
+        v = seek_level(w, m, l, list, v, limit);
+        slots[l] = v.slot.0;
+        ranks[l] = v.rank.0;
+        level = l;
+    }
+    let end = seek_next(w, m, list, v, limit);
+    Path { slots, ranks, end }
+}
