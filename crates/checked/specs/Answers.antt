@@ -3,6 +3,7 @@ use Prim.Native.Nat.{ℕ}
 use Rattle.model.specs.Calls.{Answer, answer}
 use Rattle.checked.specs.declared.Refusal.{Refusal}
 use Rattle.checked.specs.declared.Refusal.the-variants.{Broken, NoList, SameList, TooHigh, Full, NotEmpty, PastEnd, NoKey}
+use Rattle.checked.specs.declared.numbers.Numbers.{Numbers}
 use Rattle.checked.specs.declared.SearchAnswer.{SearchAnswer}
 use Rattle.checked.specs.declared.SearchAnswer.the-variants.{Found, Missing, Beyond, Refused}
 use Rattle.checked.specs.declared.KeyAnswer.{KeyAnswer}
@@ -35,3 +36,7 @@ keyTold (RefusedKey r) = answer (numberOf r) 0 0 0 0
 abbrev pub plainTold : PlainAnswer → Answer
 plainTold Accepted = answer 0 0 0 0 0
 plainTold (RefusedDone r) = answer (numberOf r) 0 0 0 0
+
+-- An answer as numbers.
+abbrev pub numbersTold : Numbers → Answer
+numbersTold n = answer (n .number) (n .found) (n .place) (n .key) (n .tally)

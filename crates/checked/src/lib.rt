@@ -1,6 +1,12 @@
 // Every call on an arena that has passed the check: the later refusals in document 01's order, then one core function.
+mod numbers;
 mod reading;
 
+pub use numbers::Numbers;
+pub use numbers::of_key;
+pub use numbers::of_plain;
+pub use numbers::of_search;
+pub use numbers::refusal_number;
 pub use reading::search;
 
 ghost use mathlib.Core.Path.{_≡_};

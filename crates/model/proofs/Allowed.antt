@@ -1,18 +1,18 @@
 -- When a call is accepted: what each row of the table of refusals tests, said of the model. Rests on specs/Calls.
-use Prim.Native.Nat.{ℕ, zero, suc, _≤_, _<_}
-use mathlib.Core.Path.{_≡_, refl, sym, ap, _∙_}
+use Prim.Native.Nat.{ℕ, _≤_, _<_}
+use mathlib.Core.Path.{_≡_, refl}
 use mathlib.Core.Logic.{_≢_}
 use mathlib.Core.Bool.{Bool, true, false, cond}
 use mathlib.Core.List.{List, [], _∷_}
-use lib.Dec.{leb, ltb, eqb}
+use lib.Dec.{leb, ltb}
 use lib.ListN.{length}
 use native.Mathlib.Omega.{arith}
-use borrow.Author.Tests.{le-leb, lt-ltb, leb-true, ltb-true, ne-eqb, eq-eqb}
+use borrow.Author.Tests.{le-leb, lt-ltb, leb-true, ltb-true, ne-eqb}
 use Rattle.model.specs.Arena.{State, listOf}
 use Rattle.model.specs.Calls.{Call, search, read, insertKey, removeKey, removeIndex, truncate, clear, splitAt, splitKey, appendList, middle, level, refusal, row3, row4, row7, row8}
 use Rattle.model.specs.Nodes.{Node}
 use Rattle.model.specs.Walks.{ended, isFound, keyWalk}
-use Rattle.model.proofs.Tests.{Same, same, other, same?, Test, hit, miss, test}
+use Rattle.model.proofs.Tests.{same, other, same?}
 
 -- The list number is below L; two list numbers are, and they differ.
 abbrev pub One : State → ℕ → Type 0

@@ -1,9 +1,8 @@
 -- The check without scratch memory: chains that follow one `next`, end at N, and have different last slots share no slot; if their lengths add up to
--- the number of node slots, each node slot stands in exactly one.
+-- the number of node slots, each node slot stands in exactly one. Rests on specs/Passes (how often a slot stands).
 use Prim.Native.Nat.{ℕ, zero, suc, _+_, _≤_, _<_}
-use mathlib.Core.Path.{_≡_, refl, sym, ap, _∙_, subst}
-use mathlib.Core.Logic.{_≢_}
-use mathlib.Core.Bool.{Bool, true, false, cond}
+use mathlib.Core.Path.{_≡_, refl, sym, ap, _∙_}
+use mathlib.Core.Bool.{cond}
 use mathlib.Core.List.{List, [], _∷_, _++_}
 use lib.Dec.{eqb}
 use lib.ListN.{length, length-append}
@@ -11,7 +10,8 @@ use native.Mathlib.Omega.{arith}
 use borrow.Author.Tests.{eq-eqb, ne-eqb}
 use Rattle.model.specs.Nodes.{N}
 use Rattle.model.specs.Passes.{timesFree}
-use Rattle.model.proofs.Tests.{Same, same, other, same?, Test, hit, miss, test}
+use Rattle.model.proofs.Builds.{in-free}
+use Rattle.model.proofs.Tests.{same, other, same?, hit, miss, test}
 
 abbrev pub first : List ℕ → ℕ
 first [] = N
@@ -46,13 +46,6 @@ module _ (nx : ℕ → ℕ) where
   run-drop [] bb p = p
   run-drop (a ∷ aa) bb p = run-drop aa bb (p .2)
 
-  find : (x : ℕ) (xs : List ℕ) → 1 ≤ timesFree x xs → (aa : List ℕ) × (bb : List ℕ) × (xs ≡ aa ++ x ∷ bb)
-  find x [] l = absurd (omega arith)
-  find x (y ∷ xs) l = elim (same? y x) [
-    | same e p ↦ ([], xs, ap (λ (k : ℕ). k ∷ xs) p)
-    | other e p ↦ let i = find x xs (rw e at l) in (y ∷ i .0, i .1, ap (λ (t : List ℕ). y ∷ t) (i .2))
-  ]
-
   -- no slot twice in one chain
   run-once : (x : ℕ) (xs : List ℕ) → Run xs → timesFree x xs ≤ 1
   run-once x [] p = omega arith
@@ -61,7 +54,7 @@ module _ (nx : ℕ → ℕ) where
     | same e q ↦ elim (test 1 (timesFree x xs)) [
       | miss f r ↦ rw e (omega arith)
       | hit f r ↦
-          let i = find x xs r in
+          let i = in-free x xs r in
           let t = run-tail x xs (i .1) (rw q at p) (run-drop (i .0) (x ∷ i .1) (rw (i .2) at (p .2))) in
           absurd (omega (arith, ap length t, ap length (i .2), length-append (i .0) (x ∷ i .1)))
     ]
@@ -75,8 +68,8 @@ module _ (nx : ℕ → ℕ) where
   -- a slot in two chains: they end alike
   run-meet : (x : ℕ) (xs ys : List ℕ) → Run xs → Run ys → 1 ≤ timesFree x xs → 1 ≤ timesFree x ys → ends-at xs ≡ ends-at ys
   run-meet x xs ys p q l k =
-      let i = find x xs l in
-      let j = find x ys k in
+      let i = in-free x xs l in
+      let j = in-free x ys k in
       let t = run-tail x (i .1) (j .1) (run-drop (i .0) (x ∷ i .1) (rw (i .2) at p)) (run-drop (j .0) (x ∷ j .1) (rw (j .2) at q)) in
       rw (i .2, j .2, ends-mid (i .0) x (i .1), ends-mid (j .0) x (j .1), t) refl
 

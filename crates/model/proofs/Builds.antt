@@ -1,21 +1,19 @@
--- Words whose header, heads, nodes and free slots read as a sound state's are that state's words; and what a store does to the records.
+-- Words whose header, heads, nodes and free slots read as a sound model's are that model's words; and what a store does to the records.
+-- Rests on Records.
 use Prim.Native.Nat.{ℕ, zero, suc, _+_, _-_, _*_, _≤_, _<_}
 use mathlib.Core.Path.{_≡_, refl, sym, ap, ap₂, _∙_, subst}
-use mathlib.Core.Logic.{_≢_, _⊎_, inl, inr}
-use mathlib.Core.Bool.{Bool, true, false, cond}
+use mathlib.Core.Logic.{_≢_}
 use mathlib.Core.List.{List, [], _∷_, _++_}
-use lib.Dec.{eqb, ltb}
 use lib.ListN.{length, take, drop, getD, set, take-append-drop, length-drop}
-use lib.Seq.{drop-drop, drop-set-lt, drop-set-add, take-set-le, take-set-lt, set-out}
-use native.Mathlib.Nat.{not-suc-le-zero, zero-mul, add-zero, add-suc, suc-add, zero-add, add-comm, add-assoc, mul-le-mul-right}
+use lib.Seq.{drop-drop, drop-set-lt, drop-set-add, take-set-le, take-set-lt}
+use native.Mathlib.Nat.{zero-mul, add-zero, zero-add, mul-le-mul-right}
 use native.Mathlib.Omega.{arith}
-use borrow.Author.Tests.{lt-ltb, le-ltb, eq-eqb, ne-eqb}
-use Rattle.model.specs.Arena.{State, nodeWords, headWords, freeWords, inLists, inFree, recordOf, records, header, encode, listOf}
+use Rattle.model.specs.Arena.{State, nodeWords, headWords, freeWords, recordOf, records, header, encode, listOf}
 use Rattle.model.specs.Cells.{recordAt}
 use Rattle.model.specs.Nodes.{Node}
 use Rattle.model.specs.Passes.{times, timesAll, timesFree, Sound, Sizes, Passes}
 use Rattle.model.proofs.Records.{rec-encode, record-node, record-free, decode-encode}
-use Rattle.model.proofs.Tests.{Same, same, other, same?, Test, hit, miss, test}
+use Rattle.model.proofs.Tests.{same, other, same?, hit, miss, test}
 
 pub recs-build : (W : ℕ) (f : ℕ → List ℕ) (s n : ℕ) (u : List ℕ) → length u ≡ n * W → ((j : ℕ) → j < n → take W (drop (j * W) u) ≡ f (s + j)) → u ≡ records f s n
 recs-build W f s zero [] l h = refl

@@ -1,12 +1,12 @@
 -- The walk by key, as document 01 tells it: what it leaves at each level and what the search answers ("Consequences to be proved").
 -- Rests on Searching (the closed form) and Precursor (the closed form's ends on a list whose keys never fall).
-use Prim.Native.Nat.{ℕ, suc, _-_, _≤_, _<_}
+use Prim.Native.Nat.{ℕ, suc, _-_, _<_}
 use mathlib.Core.Path.{_≡_, refl, sym, ap, _∙_}
 use mathlib.Core.Bool.{Bool, true, false}
 use mathlib.Core.List.{List}
 use lib.ListN.{length, take, drop, getD}
 use Rattle.model.specs.Nodes.{Node, at, smaller, smallerKeys, Sorted}
-use Rattle.model.specs.Walks.{Stand, stand, precursors, isFound, placeOf, keyWalk, ends, keyIs, last}
+use Rattle.model.specs.Walks.{stand, precursors, isFound, placeOf, keyWalk, keyIs, last}
 use Rattle.model.proofs.Precursor.{LastBelow, FoundFirst, stop-is, precursor-is, found-is, missing-is}
 use Rattle.model.proofs.Searching.{walk-found, walk-place, precursor-stop, smaller-all}
 use Rattle.model.proofs.Walk.{place-is}

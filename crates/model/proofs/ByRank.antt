@@ -2,21 +2,21 @@
 -- Rests on Walk and Precursor (the last node of a height).
 use Prim.Native.Nat.{ℕ, zero, suc, _+_, _-_, _≤_, _<_}
 use mathlib.Core.Path.{_≡_, refl, sym, ap, _∙_}
-use mathlib.Core.Bool.{Bool, true, false, cond}
+use mathlib.Core.Bool.{cond}
 use mathlib.Core.List.{List, [], _∷_}
-use mathlib.Core.Option.{Option, none, some}
+use mathlib.Core.Option.{none, some}
 use lib.Dec.{leb, ltb, eqb, eqb·suc-zero}
 use lib.ListN.{length, take, drop, getD, length-take, length-drop}
-use lib.Seq.{drop-drop, drop-nil, take-nil}
+use lib.Seq.{drop-drop, take-nil}
 use native.Mathlib.Nat.{zero-add, add-zero, suc-sub-suc}
 use native.Mathlib.Omega.{arith}
-use borrow.Author.Tests.{le-leb, lt-leb, le-ltb}
-use Rattle.model.specs.Links.{further, distance}
+use borrow.Author.Tests.{le-leb, lt-leb}
+use Rattle.model.specs.Links.{distance}
 use Rattle.model.specs.Nodes.{Node}
 use Rattle.model.specs.Walks.{alongRanks, descendRanks, rankPrecursors, nextRanks, rankWalk, last}
-use Rattle.model.proofs.Precursor.{further-add, last-last}
-use Rattle.model.proofs.Steps.{further-zero, further-one}
-use Rattle.model.proofs.Tests.{Same, same, other, same?, Test, hit, miss, test}
+use Rattle.model.proofs.Precursor.{last-last}
+use Rattle.model.proofs.Steps.{further-zero, further-one, further-add}
+use Rattle.model.proofs.Tests.{same, other, same?, hit, miss, test}
 use Rattle.model.proofs.Walk.{last-le}
 
 -- ---- one look at a link, with k ranks to go at most ----

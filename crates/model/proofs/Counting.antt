@@ -1,9 +1,7 @@
--- Every node slot stands once: the lists' lengths and that of the free chain add up to the room.
+-- Every node slot stands once: the lists' lengths and that of the free chain add up to the room. Rests on Apart (sums over slots) and Records.
 use Prim.Native.Nat.{ℕ, zero, suc, _+_, _≤_, _<_}
-use mathlib.Core.Path.{_≡_, refl, sym, ap, _∙_}
-use mathlib.Core.Bool.{Bool, true, false, cond}
+use mathlib.Core.Path.{_≡_, refl, _∙_}
 use mathlib.Core.List.{List, [], _∷_}
-use lib.Dec.{eqb}
 use lib.ListN.{length, getD}
 use native.Mathlib.Omega.{arith}
 use borrow.Author.Tests.{eq-eqb}
@@ -11,12 +9,22 @@ use Rattle.model.specs.Arena.{State, listOf}
 use Rattle.model.specs.Nodes.{Node}
 use Rattle.model.specs.Passes.{times, timesAll, timesFree, Sound}
 use Rattle.model.proofs.Apart.{sum, one-at, sum-add, sum-one, sum-ext, sum-zero, sum-chain, Within}
-use Rattle.model.proofs.Records.{placed, timesAll-ge}
-use Rattle.model.proofs.Tests.{Same, same, other, same?}
+use Rattle.model.proofs.Records.{placed}
+use Rattle.model.proofs.Tests.{same, other, same?}
 
 times-one : (y : Node) (ys : List Node) (s : ℕ) → times s (y ∷ ys) ≡ one-at (y .slot) s + times s ys
 unfolding one-at
 times-one y ys s = elim (same? (y .slot) s) [ same e p ↦ rw e (omega arith) | other e p ↦ rw e (omega arith) ]
+
+-- the lengths of all lists together
+abbrev pub total : List (List Node) → ℕ
+total [] = zero
+total (xs ∷ xss) = length xs + total xss
+
+get-le : (xss : List (List Node)) (a : ℕ) → length (getD xss a []) ≤ total xss
+get-le [] a = omega arith
+get-le (xs ∷ xss) zero = omega arith
+get-le (xs ∷ xss) (suc a) = omega (arith, get-le xss a)
 
 module _ (L C : ℕ) where
   Inside : (ℕ → ℕ) → Type 0
@@ -29,10 +37,6 @@ module _ (L C : ℕ) where
       let i = h (y .slot) (rw (eq-eqb (y .slot) (y .slot) refl) (omega arith)) in
       sum-ext (λ s. times s (y ∷ ys)) (λ s. one-at (y .slot) s + times s ys) (times-one y ys) L C
       ∙ sum-add (one-at (y .slot)) (λ s. times s ys) L C ∙ omega (arith, sum-one (y .slot) L C (i .0) (i .1), sum-nodes ys (λ s k. h s (omega (arith, times-one y ys s))))
-
-  abbrev pub total : List (List Node) → ℕ
-  total [] = zero
-  total (xs ∷ xss) = length xs + total xss
 
   sum-lists : (xss : List (List Node)) → Inside (λ s. timesAll s xss) → sum (λ s. timesAll s xss) L C ≡ total xss
   unfolding Inside
@@ -51,12 +55,7 @@ module _ (L C : ℕ) where
   sum-ones f s zero h = refl
   sum-ones f s (suc n) h = omega (arith, h s (omega arith) (omega arith), sum-ones f (suc s) n (λ k a b. h k (omega arith) (omega arith)))
 
-  get-le : (xss : List (List Node)) (a : ℕ) → length (getD xss a []) ≤ total xss
-  get-le [] a = omega arith
-  get-le (xs ∷ xss) zero = omega arith
-  get-le (xs ∷ xss) (suc a) = omega (arith, get-le xss a)
-
-pub all-slots : (S : State) → Sound S → total (length (S .lists)) (S .room) (S .lists) + length (S .free) ≡ S .room
+pub all-slots : (S : State) → Sound S → total (S .lists) + length (S .free) ≡ S .room
 unfolding Inside
 all-slots S v =
     let L = length (S .lists) in
@@ -67,4 +66,4 @@ all-slots S v =
     omega (arith, a, b, o, sum-add (λ s. timesAll s (S .lists)) (λ s. timesFree s (S .free)) L C)
 
 pub list-few : (S : State) → Sound S → (a : ℕ) → length (listOf S a) + length (S .free) ≤ S .room
-list-few S v a = omega (arith, all-slots S v, get-le (length (S .lists)) (S .room) (S .lists) a)
+list-few S v a = omega (arith, all-slots S v, get-le (S .lists) a)

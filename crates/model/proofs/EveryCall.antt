@@ -1,14 +1,11 @@
 -- Every call keeps a sound model of its sizes, so that "every arena call but the check, when not refused, leave an arena that passes the check".
 -- Set-up makes one. Rests on Keeps (each operation), Allowed (what is accepted) and Builds (the words of a sound model pass).
 use Prim.Native.Nat.{ℕ, zero, suc, _+_, _≤_, _<_}
-use mathlib.Core.Path.{_≡_, refl, sym, ap, _∙_, subst}
-use mathlib.Core.Logic.{_≢_}
-use mathlib.Core.Bool.{cond}
+use mathlib.Core.Path.{_≡_, refl, ap, _∙_}
 use mathlib.Core.List.{List, [], _∷_}
-use lib.Dec.{eqb}
 use lib.ListN.{length, set, replicate, length-set, length-replicate}
 use native.Mathlib.Omega.{arith}
-use borrow.Author.Tests.{ne-eqb, eq-eqb}
+use borrow.Author.Tests.{ne-eqb}
 use Rattle.model.specs.Arena.{State, listOf, upFrom, setUp, encode}
 use Rattle.model.specs.Calls.{Call, search, read, insertKey, removeKey, removeIndex, truncate, clear, splitAt, splitKey, appendList, middle, level, refusal, insertIn, performed, resultOf}
 use Rattle.model.specs.Nodes.{Node, smaller, Sorted, Low}
@@ -18,7 +15,7 @@ use Rattle.model.proofs.Allowed.{Allowed, allowed}
 use Rattle.model.proofs.Builds.{passes-encode}
 use Rattle.model.proofs.ByKey.{key-place, key-found}
 use Rattle.model.proofs.Keeps.{sorted-list, sound-insert, sound-remove, sound-truncate, sound-level, sound-split, sound-append}
-use Rattle.model.proofs.Tests.{Same, same, other, same?}
+use Rattle.model.proofs.Tests.{same, other, same?}
 
 -- what holds of a model that an accepted call leaves, and of the model before, holds after any call
 pub after-any : (P : State → Type 0) (S : State) (c : Call) → (Allowed S c → P (performed S c)) → P S → P (resultOf S c)

@@ -1,22 +1,21 @@
 -- "Only the named lists, their nodes and the free chain change": a call leaves every record of a list that it does not name, and of the header only
 -- the two words of the free chain change. A refused call, and one that only reads, changes nothing.
 -- Rests on EveryCall and Records (the record of a slot in the words of a sound model).
-use Prim.Native.Nat.{ℕ, zero, suc, _+_, _<_}
-use mathlib.Core.Path.{_≡_, refl, sym, ap, _∙_, subst}
+use Prim.Native.Nat.{ℕ, _<_}
+use mathlib.Core.Path.{_≡_, refl, sym, ap, _∙_}
 use mathlib.Core.Logic.{_≢_}
-use mathlib.Core.Bool.{cond}
 use mathlib.Core.List.{List, [], _∷_, _++_}
 use lib.ListN.{length, take, getD, set}
 use lib.Seq.{getD-set-other}
 use native.Mathlib.Omega.{arith}
-use Rattle.model.specs.Arena.{State, listOf, headWords, nodeWords, recordOf, encode}
+use Rattle.model.specs.Arena.{State, listOf, nodeWords, encode}
 use Rattle.model.specs.Calls.{Call, search, read, insertKey, removeKey, removeIndex, truncate, clear, splitAt, splitKey, appendList, middle, level, names, Unnamed, refusal, insertIn, performed, resultOf}
 use Rattle.model.specs.Cells.{recordAt}
 use Rattle.model.specs.Nodes.{Node}
 use Rattle.model.specs.Passes.{Sound}
 use Rattle.model.proofs.EveryCall.{Alike, after-any, alike-after, sound-after}
 use Rattle.model.proofs.Records.{rec-encode, head-words, record-node}
-use Rattle.model.proofs.Tests.{Same, same, other, same?}
+use Rattle.model.proofs.Tests.{same, other, same?}
 
 -- ---- calls that change nothing ----
 pub refused-keeps : (S : State) (c : Call) → refusal S c ≢ 0 → resultOf S c ≡ S

@@ -1,23 +1,19 @@
--- K10: the limit from the gaps, and the gaps of a levelled list.
-use Prim.Native.Nat.{ℕ, zero, suc, _+_, _-_, _*_, _/_, _%_, _^_, _≤_, _<_, max}
-use mathlib.Core.Path.{_≡_, refl, sym, ap, _∙_, subst}
-use mathlib.Core.Logic.{_⊎_, inl, inr}
-use mathlib.Core.Bool.{Bool, true, false, cond}
+-- The limit of the tally by the largest gap of a list. Rests on Walk and specs/Gaps.
+use Prim.Native.Nat.{ℕ, zero, suc, _+_, _*_, _≤_, _<_}
+use mathlib.Core.Path.{_≡_}
 use mathlib.Core.List.{List, [], _∷_, _++_}
-use lib.Dec.{leb, ltb, eqb}
-use lib.ListN.{length, take, drop, getD, take-append-drop}
+use lib.ListN.{take, drop, take-append-drop}
 use lib.Seq.{drop-append-le}
-use native.Mathlib.Nat.{zero-add, add-zero, not-suc-le-zero, suc-inj, suc-ne-zero, le-trans, pow-succ'}
-use native.Mathlib.Decide.{ℕ-discrete}
+use native.Mathlib.Nat.{not-suc-le-zero, le-trans}
 use native.Mathlib.Omega.{arith}
-use borrow.Author.Tests.{le-leb, lt-leb, eq-eqb, ne-eqb}
-use Rattle.model.specs.Gaps.{Levelled, gapAt, gap}
+use borrow.Author.Tests.{le-leb}
+use Rattle.model.specs.Gaps.{gapAt, gap}
 use Rattle.model.specs.Links.{further}
-use Rattle.model.specs.Lists.{twos, levelFrom}
 use Rattle.model.specs.Nodes.{Node, smaller, Below, Above, Sorted, Low}
-use Rattle.model.specs.Walks.{go, tally, last}
-use Rattle.model.proofs.Tests.{Test, hit, miss, test}
-use Rattle.model.proofs.Walk.{last-le, tall, any, any-le, go-split, asks-split, below-drop, below-smaller, above-smaller}
+use Rattle.model.specs.Walks.{tally, last}
+use Rattle.model.proofs.Ordering.{low-cut}
+use Rattle.model.proofs.Tests.{hit, miss, test}
+use Rattle.model.proofs.Walk.{last-le, tall, any-le, go-split, asks-split, below-drop, below-smaller, above-smaller}
 
 gap-from : (h c d : ℕ) → c ≤ d → (ys : List Node) → (c ≤ gapAt h c ys) × (gapAt h c ys ≤ gapAt h d ys)
 gap-from h c d l [] = (omega arith, l)
@@ -93,15 +89,10 @@ gap-all (suc h) xs k l = elim (test k h) [
   | miss e p ↦ let q : k ≡ suc h = omega arith in rw q (omega arith)
 ]
 
-low-take : (h n : ℕ) (xs : List Node) → Low h xs → Low h (take n xs)
-low-take h zero xs w = tt
-low-take h (suc n) [] w = tt
-low-take h (suc n) (y ∷ ys) w = (w .0, low-take h n ys (w .1))
-
--- K10
+-- at most (g + 1)(M + 1) comparisons, g being the largest gap
 pub tally-gap : (M t : ℕ) (xs : List Node) → Sorted xs → Low M xs → tally M t xs ≤ (gap M xs + 1) * (M + 1)
 tally-gap M t xs s w =
     let r = smaller t xs in
     let f : (k : ℕ) → k ≤ M → gapAt k 0 (take r xs) ≤ gap M xs
     = λ k l. le-trans (rw (take-append-drop r xs) at (gap-prefix k 0 (take r xs) (drop r xs))) (gap-all M xs k l) in
-    rw (take-append-drop r xs) at (tally-gaps M t (gap M xs) (take r xs) (drop r xs) (below-smaller t xs) (above-smaller t xs s) (low-take M r xs w) f)
+    rw (take-append-drop r xs) at (tally-gaps M t (gap M xs) (take r xs) (drop r xs) (below-smaller t xs) (above-smaller t xs s) (low-cut M r xs w .0) f)

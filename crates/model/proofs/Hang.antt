@@ -1,25 +1,25 @@
 -- A list of which the part behind A changes: of each stage, the links of one owner of A change, the last that is high enough.
-use Prim.Native.Nat.{ℕ, zero, suc, _+_, _-_, _*_, _≤_, _<_}
+-- Rests on Owners and Records.
+use Prim.Native.Nat.{ℕ, zero, suc, _-_, _≤_, _<_}
 use mathlib.Core.Path.{_≡_, refl, sym, ap, _∙_, subst}
 use mathlib.Core.Logic.{_≢_, _⊎_, inl, inr}
-use mathlib.Core.Bool.{Bool, true, false, cond}
-use mathlib.Core.List.{List, [], _∷_, _++_, append-assoc}
+use mathlib.Core.Bool.{cond}
+use mathlib.Core.List.{List, _∷_, _++_, append-assoc}
 use lib.Dec.{leb}
-use lib.ListN.{length, take, drop, getD, length-drop, length-append}
+use lib.ListN.{length, take, drop, getD, length-drop}
 use lib.Seq.{split-at, getD-at, length-take-le}
-use native.Mathlib.Nat.{zero-add}
 use native.Mathlib.Omega.{arith}
-use borrow.Author.Tests.{le-leb, lt-leb}
+use borrow.Author.Tests.{le-leb}
 use Rattle.model.specs.Arena.{State, nodeWords, headWords, lastSlot, listOf, recordOf, slots-of}
 use Rattle.model.specs.Links.{target, distance}
-use Rattle.model.specs.Nodes.{Node, node, N, slotAt, heightAt, at}
+use Rattle.model.specs.Nodes.{Node, node, N, slotAt, at}
 use Rattle.model.specs.Passes.{Sound}
 use Rattle.model.specs.Walks.{last}
 use Rattle.model.proofs.Links.{past}
 use Rattle.model.proofs.Owners.{to, far, Says, last-mid, last-distance, distance-last, near, beyond}
 use Rattle.model.proofs.Precursor.{last-node}
 use Rattle.model.proofs.Records.{head-words, node-words, slot-of}
-use Rattle.model.proofs.Tests.{Test, hit, miss, test}
+use Rattle.model.proofs.Tests.{hit, miss, test}
 use Rattle.model.proofs.Walk.{last-le}
 
 -- the owners of A

@@ -1,23 +1,22 @@
--- An insertion, and a removal that undoes it: what changes in the records.
-use Prim.Native.Nat.{ℕ, zero, suc, _+_, _-_, _*_, _≤_, _<_}
+-- An insertion, and a removal that undoes it: what changes in the records. Rests on Hang and Splitting (which part a node stands in).
+use Prim.Native.Nat.{ℕ, _≤_, _<_}
 use mathlib.Core.Path.{_≡_, refl, sym, ap, _∙_, subst}
 use mathlib.Core.Logic.{_≢_, _⊎_, inl, inr}
 use mathlib.Core.List.{List, [], _∷_, _++_, append-assoc}
-use lib.ListN.{length, take, drop, getD, set, length-set, length-append, length-drop, take-append-drop}
+use lib.ListN.{length, take, drop, getD, length-set, take-append-drop}
 use lib.Seq.{getD-set-same, getD-set-other}
 use native.Mathlib.Omega.{arith}
 use Rattle.model.specs.Arena.{State, nodeWords, headWords, freeWords, listOf, recordOf, slots-of}
-use Rattle.model.specs.Calls.{insertIn, doInsert}
+use Rattle.model.specs.Calls.{insertIn}
 use Rattle.model.specs.Lists.{insert}
-use Rattle.model.specs.Nodes.{Node, node, N, slotAt, smaller}
-use Rattle.model.specs.Passes.{Sound, times, timesAll, timesFree}
-use Rattle.model.specs.Walks.{last}
+use Rattle.model.specs.Nodes.{Node, node, smaller}
+use Rattle.model.specs.Passes.{Sound, timesFree}
 use Rattle.model.proofs.Hang.{InA, its-head, its-node, Hung}
 use Rattle.model.proofs.Keeps.{sound-insert}
-use Rattle.model.proofs.Owners.{Place, head, listed, freed, place}
+use Rattle.model.proofs.Owners.{head, listed, freed, place}
 use Rattle.model.proofs.Records.{head-words, node-words, free-words, slot-of, free-slot, free-mid, times-mid, timesAll-ge}
-use Rattle.model.proofs.Splitting.{InOf, in-first, in-second, in-of}
-use Rattle.model.proofs.Tests.{Same, same, other, same?, Test, hit, miss, test}
+use Rattle.model.proofs.Splitting.{in-first, in-second, in-of}
+use Rattle.model.proofs.Tests.{same, other, same?}
 
 abbrev pub withBoth : State → List (List Node) → List ℕ → State
 withBoth Z ls fs = record { levels = Z .levels; room = Z .room; lists = ls; free = fs }

@@ -1,18 +1,18 @@
--- K12 on key sequences: lists whose keys never fall are equal in keys if every key stands as often.
+-- Key sequences: a list whose keys never fall is known by how often each key stands in it, and an append keeps that. Rests on Ordering.
 use Prim.Native.Nat.{ℕ, zero, suc, _+_, _≤_, _<_}
 use mathlib.Core.Path.{_≡_, refl, sym, ap, ap₂, _∙_}
-use mathlib.Core.Logic.{_≢_}
-use mathlib.Core.Bool.{Bool, true, false, cond}
-use mathlib.Core.List.{List, [], _∷_, _++_, map}
-use lib.Dec.{eqb, leb, ltb}
-use lib.ListN.{length, take, drop, take-append-drop}
+use mathlib.Core.Bool.{cond}
+use mathlib.Core.List.{List, [], _∷_, _++_}
+use lib.Dec.{eqb}
+use lib.ListN.{take, drop, take-append-drop}
 use native.Mathlib.Omega.{arith}
 use native.Mathlib.Nat.{le-antisymm}
 use borrow.Author.Tests.{eq-eqb, ne-eqb}
-use Rattle.model.specs.Lists.{insert, mergeIn, append, lastKey}
-use Rattle.model.specs.Nodes.{keys, Node, smaller, Above, Sorted, Low}
-use Rattle.model.proofs.Keeps.{sorted-insert, sorted-join}
-use Rattle.model.proofs.Tests.{Same, same, other, same?, Test, hit, miss, test}
+use Rattle.model.specs.Lists.{insert, mergeIn, append}
+use Rattle.model.specs.Nodes.{keys, Node, smaller, Above, Sorted}
+use Rattle.model.proofs.Ordering.{by-case}
+pub use Rattle.model.proofs.Ordering.{sorted-append}
+use Rattle.model.proofs.Tests.{same, other, same?, hit, miss, test}
 
 abbrev pub often : ℕ → List Node → ℕ
 often k [] = zero
@@ -64,33 +64,14 @@ often-merge k (b ∷ bb) aa = often-merge k bb (insert b aa) ∙ elim (same? (b 
   | other e q ↦ rw e (omega (arith, rw e at (often-insert k b aa)))
 ]
 
-sorted-merge : (bb aa : List Node) → Sorted aa → Sorted (mergeIn bb aa)
-sorted-merge [] aa s = s
-sorted-merge (b ∷ bb) aa s = sorted-merge bb (insert b aa) (sorted-insert b aa s)
-
 pub often-join : (k : ℕ) (aa bb : List Node) → often k (append aa bb) ≡ often k aa + often k bb
 often-join k aa [] = omega arith
 often-join k [] (b ∷ bb) = omega arith
-often-join k (a ∷ aa) (b ∷ bb) = elim (test (lastKey (a ∷ aa)) (b .key)) [
-  | hit e p ↦ rw e (often-append k (a ∷ aa) (b ∷ bb))
-  | miss e p ↦ elim (test (lastKey (b ∷ bb)) (a .key)) [
-    | hit f q ↦ rw (e, f) (omega (arith, often-append k (b ∷ bb) (a ∷ aa)))
-    | miss f q ↦ rw (e, f) (often-merge k (b ∷ bb) (a ∷ aa))
-  ]
-]
+often-join k (a ∷ aa) (b ∷ bb) =
+    by-case (λ cs. often k cs ≡ often k (a ∷ aa) + often k (b ∷ bb)) a aa b bb
+    (λ e. often-append k (a ∷ aa) (b ∷ bb)) (λ e. omega (arith, often-append k (b ∷ bb) (a ∷ aa))) (often-merge k (b ∷ bb) (a ∷ aa))
 
-pub sorted-append : (aa bb : List Node) → Sorted aa → Sorted bb → Sorted (append aa bb)
-sorted-append aa [] s r = s
-sorted-append [] (b ∷ bb) s r = r
-sorted-append (a ∷ aa) (b ∷ bb) s r = elim (test (lastKey (a ∷ aa)) (b .key)) [
-  | hit e p ↦ rw e (sorted-join (a ∷ aa) b bb s r p)
-  | miss e p ↦ elim (test (lastKey (b ∷ bb)) (a .key)) [
-    | hit f q ↦ rw (e, f) (sorted-join (b ∷ bb) a aa r s q)
-    | miss f q ↦ rw (e, f) (sorted-merge (b ∷ bb) (a ∷ aa) s)
-  ]
-]
-
--- K12's laws on key sequences
+-- an append is the same either way round, and in either grouping
 pub append-comm : (aa bb : List Node) → Sorted aa → Sorted bb → keys (append aa bb) ≡ keys (append bb aa)
 append-comm aa bb s r = keys-unique (append aa bb) (append bb aa) (sorted-append aa bb s r) (sorted-append bb aa r s) (λ k. omega (arith, often-join k aa bb, often-join k bb aa))
 

@@ -1,15 +1,14 @@
 -- "What each operation leaves", as key sequences: what list a holds after each accepted call, said of the keys before.
 -- Rests on EveryCall, Keys (an append keeps every key as often) and Searching (the number of smaller keys).
-use Prim.Native.Nat.{ℕ, zero, suc, _+_, _≤_, _<_}
+use Prim.Native.Nat.{ℕ, zero, suc, _+_, _<_}
 use mathlib.Core.Path.{_≡_, refl, sym, ap, ap₂, _∙_}
 use mathlib.Core.Logic.{_≢_}
-use mathlib.Core.List.{List, [], _∷_, _++_, map, map-append}
+use mathlib.Core.List.{List, [], _∷_, _++_, map-append}
 use lib.ListN.{length, take, drop, getD, set, List·getD-map}
 use lib.Seq.{getD-set-same, getD-set-other, lt-length-set}
 use native.Mathlib.Omega.{arith}
-use borrow.Author.Tests.{eq-eqb}
 use Rattle.model.specs.Arena.{State, listOf}
-use Rattle.model.specs.Calls.{Call, read, insertKey, removeKey, removeIndex, truncate, clear, splitAt, splitKey, appendList, middle, level, refusal, insertIn, doSplit, performed, resultOf}
+use Rattle.model.specs.Calls.{Call, insertKey, removeKey, removeIndex, truncate, clear, splitAt, splitKey, appendList, level, insertIn, performed, resultOf}
 use Rattle.model.specs.Lists.{insertAt, insert, removeAt, append, levelFrom}
 use Rattle.model.specs.Nodes.{Node, node, N, keys, keyAt, smaller, smallerKeys, Sorted}
 use Rattle.model.specs.Passes.{Sound}

@@ -1,25 +1,26 @@
 -- "What each operation leaves", of the nodes: where an inserted node stands, in which order freed slots and equal keys end, which heights a
--- levelling gives. Rests on KeysAfter and Levels.
+-- levelling gives, and which calls change nothing. Rests on EveryCall and KeysAfter.
 use Prim.Native.Nat.{ℕ, zero, suc, _+_, _≤_, _<_}
 use mathlib.Core.Path.{_≡_, refl, sym, ap, ap₂, _∙_}
-use mathlib.Core.Bool.{Bool, true, false, cond}
-use mathlib.Core.List.{List, [], _∷_, _++_, map}
-use lib.Dec.{leb, ltb, eqb}
-use lib.ListN.{length, take, drop, getD, set, length-drop}
-use lib.Seq.{getD-set-same}
+use mathlib.Core.Bool.{cond}
+use mathlib.Core.List.{List, [], _∷_, _++_}
+use lib.Dec.{eqb}
+use lib.ListN.{length, take, drop, length-drop, drop-of-length-le, set}
+use lib.Seq.{getD-set-same, take-all, take-length, drop-length, set-getD}
 use native.Mathlib.Omega.{arith}
 use borrow.Author.Tests.{eq-eqb, ne-eqb}
 use Rattle.model.specs.Arena.{State, listOf, lastSlot, firstFree}
-use Rattle.model.specs.Calls.{Call, insertKey, truncate, level, insertIn, performed, resultOf}
-use Rattle.model.specs.Lists.{insert, freed, mergeIn, levelFrom, twos}
-use Rattle.model.specs.Nodes.{Node, node, N, at, smaller, smallerKeys}
+use Rattle.model.specs.Calls.{insertKey, truncate, splitAt, appendList, level, resultOf}
+use Rattle.model.specs.Lists.{insert, freed, mergeIn, append, levelFrom, twos}
+use Rattle.model.specs.Nodes.{Node, node, at, smallerKeys}
 use Rattle.model.specs.Passes.{Sound}
 use Rattle.model.proofs.Allowed.{Allowed}
+use Rattle.model.proofs.EveryCall.{after-any}
 use Rattle.model.proofs.Keeps.{sorted-list}
 use Rattle.model.proofs.KeysAfter.{accepted-result}
 use Rattle.model.proofs.Searching.{smaller-all}
-use Rattle.model.proofs.Splitting.{last-drop}
-use Rattle.model.proofs.Tests.{Same, same, other, same?, Test, hit, miss, test}
+use Rattle.model.proofs.Splitting.{withLists, last-drop}
+use Rattle.model.proofs.Tests.{same, other, same?, hit, miss, test}
 
 -- ---- insert ----
 -- "takes the first free slot and stands before the first key not below its own"
@@ -103,3 +104,34 @@ pub level-heights : (S : State) (a : ℕ) → Allowed S (level a) → (i : ℕ) 
     → LevelledAt (S .levels) (at (listOf S a) i) (at (listOf (resultOf S (level a)) a) i) (suc i)
 level-heights S a p i l =
     rw (accepted-result S (level a) p, getD-set-same (S .lists) a (levelFrom (S .levels) 1 (listOf S a)) [] p) (level-at (S .levels) 1 (listOf S a) i (suc i) (omega arith) l)
+
+-- ---- calls that change nothing ----
+module _ (S : State) where
+  -- a list replaced by itself
+  again : (a : ℕ) (xs : List Node) → xs ≡ listOf S a → set (S .lists) a xs ≡ S .lists
+  again a xs e = ap (set (S .lists) a) e ∙ set-getD (S .lists) a []
+
+  -- "Truncate to n: nothing if n is the length or more"
+  pub truncate-nothing : (a n : ℕ) → length (listOf S a) ≤ n → resultOf S (truncate a n) ≡ S
+  truncate-nothing a n l =
+      after-any (λ T. T ≡ S) S (truncate a n)
+      (λ p. rw (take-all n (listOf S a) l, drop-of-length-le (listOf S a) l, set-getD (S .lists) a []) refl)
+      refl
+
+  -- "At the length it moves nothing."
+  pub split-nothing : (a b : ℕ) → resultOf S (splitAt a b (length (listOf S a))) ≡ S
+  split-nothing a b =
+      let xs = listOf S a in
+      after-any (λ T. T ≡ S) S (splitAt a b (length xs))
+      (λ p. ap (withLists S)
+      (ap₂ (λ (ls : List (List Node)) (ys : List Node). set ls b ys) (again a (take (length xs) xs) (take-length xs)) (drop-length xs)
+      ∙ again b [] (sym (p .1))))
+      refl
+
+  -- "Append of b to a: b empty, nothing."
+  pub append-nothing : (a b : ℕ) → listOf S b ≡ [] → resultOf S (appendList a b) ≡ S
+  append-nothing a b e =
+      let xs = listOf S a in
+      after-any (λ T. T ≡ S) S (appendList a b)
+      (λ p. ap (withLists S) (ap (λ (ls : List (List Node)). set ls b []) (again a (append xs (listOf S b)) (ap (append xs) e)) ∙ again b [] (sym e)))
+      refl

@@ -1,22 +1,21 @@
--- The heights that levelling gives, and the gaps of a levelled list.
-use Prim.Native.Nat.{ℕ, zero, suc, _+_, _-_, _*_, _/_, _%_, _^_, _≤_, _<_, max}
-use mathlib.Core.Path.{_≡_, refl, sym, ap, _∙_}
-use mathlib.Core.Logic.{_⊎_, inl, inr}
-use mathlib.Core.Bool.{Bool, true, false, cond}
-use mathlib.Core.List.{List, [], _∷_, _++_}
-use lib.Dec.{leb, eqb}
+-- The heights that levelling gives, and the gaps of a levelled list. Rests on Gap.
+use Prim.Native.Nat.{ℕ, zero, suc, _+_, _*_, _/_, _%_, _^_, _≤_, _<_}
+use mathlib.Core.Path.{_≡_, refl, sym}
+use mathlib.Core.Bool.{true, false}
+use mathlib.Core.List.{List, [], _∷_}
+use lib.Dec.{eqb}
 use lib.ListN.{length, take}
 use lib.Pow.{pow-pos}
-use native.Mathlib.Nat.{not-suc-le-zero, suc-inj, suc-ne-zero, pow-succ', max-le, le-trans, mul-le-mul-right}
+use native.Mathlib.Nat.{not-suc-le-zero, suc-inj, suc-ne-zero, pow-succ', max-le, mul-le-mul-right}
 use native.Mathlib.Decide.{ℕ-discrete}
 use native.Mathlib.Omega.{arith}
 use borrow.Author.Tests.{eq-eqb, ne-eqb, le-leb}
 use Rattle.model.specs.Gaps.{Levelled, gapAt, gap}
 use Rattle.model.specs.Lists.{twos, levelFrom}
-use Rattle.model.specs.Nodes.{Node, node, Sorted, Low}
+use Rattle.model.specs.Nodes.{Node, Sorted, Low}
 use Rattle.model.specs.Walks.{tally}
 use Rattle.model.proofs.Gap.{tally-gap}
-use Rattle.model.proofs.Tests.{Test, hit, miss, test}
+use Rattle.model.proofs.Tests.{hit, miss, test}
 
 -- a number is even or odd, with the test's value
 data Parity (k : ℕ) : Type 0 where
@@ -142,7 +141,7 @@ gap-levels : (M h : ℕ) → h ≤ M → (xs : List Node) → length xs < 2 ^ su
 gap-levels M zero l xs u w = gap-level M 0 l xs u w
 gap-levels M (suc h) l xs u w = max-le (gap-level M (suc h) l xs u w) (gap-levels M h (omega arith) xs u w)
 
--- K10: a levelled list with fewer than 2 ^ (M + 1) keys has gaps of at most 1
+-- a levelled list with fewer than 2 ^ (M + 1) keys has gaps of at most 1
 pub gap-levelled : (M : ℕ) (xs : List Node) → length xs < 2 ^ suc M → Levelled M 1 xs → gap M xs ≤ 1
 gap-levelled M xs u w = gap-levels M M (omega arith) xs u w
 

@@ -1,31 +1,42 @@
+-- The theorems about the definitions of document 01, by theme.
+
+-- cases
 pub mod Tests
+-- the walks: closed forms, and what document 01 claims of them
+pub mod Steps
 pub mod Walk
 pub mod Precursor
+pub mod Searching
+pub mod ByKey
+pub mod ByRank
+-- the tally's limits
 pub mod Gap
 pub mod Levels
-pub mod Links
-pub mod Records
-pub mod Steps
+pub mod Limits
+-- lists and models that operations make
+pub mod Ordering
 pub mod Keeps
-pub mod Unique
+pub mod Allowed
+pub mod EveryCall
 pub mod Keys
+pub mod KeysAfter
+pub mod Leaves
+pub mod Stay
+pub mod Composing
+-- words and models
+pub mod Records
 pub mod Builds
+pub mod Counting
 pub mod Apart
+pub mod Frame
+-- which records an operation changes
+pub mod Links
 pub mod Owners
 pub mod Hang
 pub mod Splitting
 pub mod Inserting
-pub mod Counting
-pub mod Composing
-pub mod Searching
-pub mod ByKey
-pub mod ByRank
-pub mod Allowed
-pub mod EveryCall
-pub mod Limits
-pub mod KeysAfter
-pub mod Runs
-pub mod Frame
-pub mod Leaves
+-- promises
 pub mod Refusals
-pub mod Stay
+pub mod Answers
+pub mod Unique
+pub mod Runs

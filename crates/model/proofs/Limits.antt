@@ -1,26 +1,25 @@
 -- The limits of the tally (demand 3), of the walk that document 01 tells: by the number of smaller keys, by the largest gap, and on a levelled list.
 -- Rests on Searching (the walk's tally is `tally`), Walk, Gap and Levels (its limits).
 use Prim.Native.Nat.{ℕ, suc, _+_, _*_, _^_, _≤_, _<_}
-use mathlib.Core.Path.{_≡_, refl, sym, ap, _∙_, subst}
+use mathlib.Core.Path.{_≡_}
 use mathlib.Core.List.{List, [], _∷_, map}
-use lib.ListN.{length, take, getD, set, List·getD-eq-default}
+use lib.ListN.{length, take, List·getD-eq-default}
 use lib.Seq.{getD-set-same}
 use native.Mathlib.Omega.{arith}
 use Rattle.model.specs.Arena.{State, listOf}
-use Rattle.model.specs.Calls.{Call, truncate, level, doTruncate, doLevel, performed, resultOf}
+use Rattle.model.specs.Calls.{truncate, level, resultOf}
 use Rattle.model.specs.Gaps.{Levelled, gap}
 use Rattle.model.specs.Lists.{levelFrom}
 use Rattle.model.specs.Sequences.{resultsOf}
 use Rattle.model.specs.Passes.{Sound}
 use Rattle.model.specs.Nodes.{Node, smallerKeys, Sorted, Low}
 use Rattle.model.specs.Walks.{ended, keyWalk}
-use Rattle.model.proofs.Allowed.{Allowed}
 use Rattle.model.proofs.EveryCall.{after-any, sound-after-all}
 use Rattle.model.proofs.Gap.{tally-gap}
 use Rattle.model.proofs.Keeps.{sorted-list}
-use Rattle.model.proofs.Levels.{gap-levelled, tally-levelled, level-levelled, levelled-take}
+use Rattle.model.proofs.Levels.{tally-levelled, level-levelled, levelled-take}
 use Rattle.model.proofs.Searching.{walk-tally, smaller-all}
-use Rattle.model.proofs.Tests.{Test, hit, miss, test}
+use Rattle.model.proofs.Tests.{hit, miss, test}
 use Rattle.model.proofs.Walk.{tally-le}
 
 -- The comparisons of a search.

@@ -1,22 +1,19 @@
--- How links change, and that an append undoes a split.
-use Prim.Native.Nat.{ℕ, zero, suc, _+_, _-_, _≤_, _<_}
+-- How links change where lists are joined or a node is put in, and that an append undoes a split. Rests on specs/Links and specs/Calls.
+use Prim.Native.Nat.{ℕ, zero, suc, _+_, _≤_, _<_}
 use mathlib.Core.Path.{_≡_, refl, sym, ap, _∙_}
 use mathlib.Core.Logic.{_≢_}
-use mathlib.Core.Bool.{Bool, true, false, cond}
 use mathlib.Core.List.{List, [], _∷_, _++_, append-nil}
-use lib.Dec.{leb, eqb}
 use lib.ListN.{length, take, drop, getD, set, take-append-drop}
 use lib.Seq.{lt-length-set, set-set, set-comm, set-getD, getD-set-same, getD-set-other}
-use native.Mathlib.Nat.{zero-add, add-zero, add-suc}
 use native.Mathlib.Omega.{arith}
 use borrow.Author.Tests.{le-leb, lt-leb}
-use Rattle.model.specs.Arena.{State, putList, listOf}
+use Rattle.model.specs.Arena.{State, listOf}
 use Rattle.model.specs.Calls.{doSplit, doAppend}
 use Rattle.model.specs.Links.{further, distance, target}
 use Rattle.model.specs.Lists.{lastKey, append}
-use Rattle.model.specs.Nodes.{Node, node, Above, Sorted}
-use Rattle.model.specs.Walks.{go, asks}
-use Rattle.model.proofs.Tests.{Test, hit, miss, test}
+use Rattle.model.specs.Nodes.{Node, Sorted}
+use Rattle.model.proofs.Steps.{further-zero}
+use Rattle.model.proofs.Tests.{hit, miss, test}
 
 -- a link over two lists: within the first, or past it into the second
 abbrev pub past : ℕ → ℕ → ℕ
@@ -47,12 +44,8 @@ pub target-append : (h : ℕ) (aa bb : List Node) → distance h aa ≡ 0 → ta
 target-append h [] bb e = refl
 target-append h (y ∷ ys) bb e = elim (test h (y .height)) [
   | hit f p ↦ absurd (omega (arith, rw f at e))
-  | miss f p ↦ rw f (target-append h ys bb (un (distance h ys) (rw f at e)))
+  | miss f p ↦ rw f (target-append h ys bb (further-zero (distance h ys) (rw f at e)))
 ]
-  where
-    un : (d : ℕ) → further d ≡ 0 → d ≡ 0
-    un zero e = refl
-    un (suc d) e = omega arith
 
 -- a spanning link grows by one where a lower node is put in; the node's own stage stops at it
 pub distance-insert-low : (h : ℕ) (n : Node) (aa bb : List Node) → n .height < h → distance h aa ≡ 0 → distance h (aa ++ n ∷ bb) ≡ further (distance h (aa ++ bb))
@@ -66,7 +59,7 @@ distance-insert-low h n aa bb l e =
 pub distance-insert-high : (h : ℕ) (n : Node) (aa bb : List Node) → h ≤ n .height → distance h aa ≡ 0 → distance h (aa ++ n ∷ bb) ≡ suc (length aa)
 distance-insert-high h n aa bb l e = rw (distance-append h aa (n ∷ bb), e, le-leb h (n .height) l) (omega arith)
 
--- ---- K12 ----
+-- ---- an append undoes a split ----
 last-first : (aa : List Node) (b : Node) (bb : List Node) → Sorted (aa ++ b ∷ bb) → lastKey aa ≤ b .key
 last-first [] b bb s = omega arith
 last-first (a ∷ []) b bb s = s .0 .0

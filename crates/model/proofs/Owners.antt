@@ -1,22 +1,23 @@
--- What a column says of an owner, where a slot stands, and links over two lists.
-use Prim.Native.Nat.{ℕ, zero, suc, _+_, _-_, _*_, _≤_, _<_}
-use mathlib.Core.Path.{_≡_, refl, sym, ap, _∙_, subst}
-use mathlib.Core.Logic.{_≢_, _⊎_, inl, inr}
-use mathlib.Core.Bool.{Bool, true, false, cond}
+-- What a column of a record says of its owner, where a slot stands, and links over two lists. Rests on Builds and Links.
+use Prim.Native.Nat.{ℕ, zero, suc, _+_, _*_, _≤_, _<_}
+use mathlib.Core.Path.{_≡_, refl, ap, _∙_}
+use mathlib.Core.Logic.{_≢_}
+use mathlib.Core.Bool.{cond}
 use mathlib.Core.List.{List, [], _∷_, _++_}
-use lib.Dec.{leb, ltb}
-use lib.ListN.{length, take, drop, getD}
-use native.Mathlib.Nat.{not-suc-le-zero, add-zero, zero-add, suc-add}
+use lib.Dec.{leb}
+use lib.ListN.{length, getD}
+use native.Mathlib.Nat.{not-suc-le-zero, add-zero, zero-add}
 use native.Mathlib.Omega.{arith}
-use borrow.Author.Tests.{le-leb, lt-leb}
-use Rattle.model.specs.Arena.{State, nodeLinks, nodeWords, headWords, firstSlot, listOf, recordOf, slots-of}
+use borrow.Author.Tests.{le-leb}
+use Rattle.model.specs.Arena.{State, nodeLinks, nodeWords, headWords, firstSlot, listOf, slots-of}
 use Rattle.model.specs.Links.{further, target, distance}
 use Rattle.model.specs.Nodes.{Node, node, N}
-use Rattle.model.specs.Passes.{times, timesAll, timesFree, Sound}
+use Rattle.model.specs.Passes.{timesAll, Sound}
 use Rattle.model.specs.Walks.{last}
 use Rattle.model.proofs.Builds.{in-list, in-lists, in-free}
-use Rattle.model.proofs.Links.{past, join, distance-append, target-append}
-use Rattle.model.proofs.Tests.{Test, hit, miss, test}
+use Rattle.model.proofs.Links.{past, distance-append, target-append}
+use Rattle.model.proofs.Steps.{further-zero}
+use Rattle.model.proofs.Tests.{hit, miss, test}
 
 -- the target and the distance of stage h, of an owner of height ht that ys follow
 abbrev pub to : ℕ → ℕ → List Node → ℕ
@@ -71,22 +72,18 @@ last-mid h (a ∷ aa) y zs l = elim (test h (a .height)) [
   | miss e p ↦ rw (e, last-mid h aa y zs l) (omega arith)
 ]
 
-un-further : (d : ℕ) → further d ≡ 0 → d ≡ 0
-un-further zero e = refl
-un-further (suc d) e = omega arith
-
 pub last-distance : (h : ℕ) (ys : List Node) → last h ys ≡ 0 → distance h ys ≡ 0
 last-distance h [] e = refl
 last-distance h (y ∷ ys) e = elim (test h (y .height)) [
   | hit f p ↦ absurd (omega (arith, rw f at e))
-  | miss f p ↦ rw (f, last-distance h ys (un-further (last h ys) (rw f at e))) refl
+  | miss f p ↦ rw (f, last-distance h ys (further-zero (last h ys) (rw f at e))) refl
 ]
 
 pub distance-last : (h : ℕ) (ys : List Node) → distance h ys ≡ 0 → last h ys ≡ 0
 distance-last h [] e = refl
 distance-last h (y ∷ ys) e = elim (test h (y .height)) [
   | hit f p ↦ absurd (omega (arith, rw f at e))
-  | miss f p ↦ rw (f, distance-last h ys (un-further (distance h ys) (rw f at e))) refl
+  | miss f p ↦ rw (f, distance-last h ys (further-zero (distance h ys) (rw f at e))) refl
 ]
 
 -- a link that ends in the first list is not changed by what follows it

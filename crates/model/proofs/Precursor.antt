@@ -1,27 +1,20 @@
--- What the walk leaves: the precursor of each level, and whether the key is found.
+-- What the closed form of the walk by key leaves: the precursor of each stage, and whether the key is found. Rests on Walk.
 use Prim.Native.Nat.{ℕ, zero, suc, _+_, _-_, _≤_, _<_}
-use mathlib.Core.Path.{_≡_, refl, sym, ap, _∙_, subst}
-use mathlib.Core.Logic.{_⊎_, inl, inr}
-use mathlib.Core.Bool.{Bool, true, false, cond, false≢true}
+use mathlib.Core.Path.{_≡_, refl, sym, _∙_}
+use mathlib.Core.Logic.{inl, inr}
+use mathlib.Core.Bool.{true, false, false≢true}
 use mathlib.Core.List.{List, [], _∷_, _++_}
-use lib.Dec.{leb, ltb, eqb}
-use lib.ListN.{length, take, drop, getD, take-append-drop, length-drop, length-take, List·getD-append}
+use lib.ListN.{length, take, drop, getD, take-append-drop, length-drop}
 use lib.Seq.{drop-append-le, length-take-le, getD-take, getD-drop}
-use native.Mathlib.Nat.{zero-add, add-zero, suc-sub-suc, sub-self, not-suc-le-zero, suc-ne-zero, suc-inj, add-assoc, eq-or-lt-of-le}
+use native.Mathlib.Nat.{zero-add, add-zero, sub-self, not-suc-le-zero, suc-ne-zero, suc-inj, eq-or-lt-of-le}
 use native.Mathlib.Omega.{arith}
-use borrow.Author.Tests.{le-leb, lt-leb, eqb-true, eqb-false}
+use borrow.Author.Tests.{le-leb, eqb-true, eqb-false}
 use Rattle.model.specs.Links.{further}
 use Rattle.model.specs.Nodes.{at, Node, node, N, smaller, Below, Above, Sorted}
-use Rattle.model.specs.Walks.{go, ends, stops, keyIs, last}
-use Rattle.model.proofs.Tests.{Test, hit, miss, test}
-use Rattle.model.proofs.Walk.{last-le, last-zero, go-split, below-drop, below-smaller, above-smaller, smaller-le, place-is}
-
-pub further-add : (d n : ℕ) → further (suc d + n) ≡ suc (suc d + n)
-further-add d n = further-pos (suc d + n) (omega arith)
-  where
-    further-pos : (k : ℕ) → 0 < k → further k ≡ suc k
-    further-pos zero l = absurd (not-suc-le-zero l)
-    further-pos (suc k) l = refl
+use Rattle.model.specs.Walks.{stops, keyIs, last}
+use Rattle.model.proofs.Steps.{further-add}
+use Rattle.model.proofs.Tests.{hit, miss, test}
+use Rattle.model.proofs.Walk.{last-le, go-split, below-drop, below-smaller, above-smaller, smaller-le}
 
 -- the last of height h is found behind the last of a greater height
 pub last-last : (g h : ℕ) → h ≤ g → (aa : List Node) → last h aa ≡ last g aa + last h (drop (last g aa) aa)

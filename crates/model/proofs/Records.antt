@@ -1,22 +1,17 @@
--- The words of a sound state read back as that state.
-use Prim.Native.Nat.{ℕ, zero, suc, _+_, _-_, _*_, _≤_, _<_}
+-- The words of a sound model: the record of each slot, and that they read back as that model. Rests on specs/Arena and specs/Passes.
+use Prim.Native.Nat.{ℕ, zero, suc, _+_, _*_, _≤_, _<_}
 use mathlib.Core.Path.{_≡_, refl, sym, ap, ap₂, _∙_}
-use mathlib.Core.Bool.{Bool, true, false, cond}
-use mathlib.Core.List.{List, [], _∷_, _++_, append-assoc}
-use mathlib.Core.Logic.{_≢_}
-use lib.Dec.{eqb, ltb, leb}
+use mathlib.Core.List.{List, [], _∷_, _++_}
 use lib.ListN.{length, take, drop, getD, length-append}
-use lib.Seq.{take-at, getD-at, drop-append-add, drop-drop, append-snoc}
-use native.Mathlib.Nat.{zero-add, add-zero, suc-add, add-suc, suc-mul, not-suc-le-zero, add-comm, zero-mul}
-use native.Mathlib.Decide.{ℕ-discrete}
+use lib.Seq.{take-at, getD-at, drop-append-add, append-snoc}
+use native.Mathlib.Nat.{zero-add, add-zero, suc-add, add-suc, not-suc-le-zero, zero-mul}
 use native.Mathlib.Omega.{arith}
-use borrow.Author.Tests.{lt-ltb, le-ltb, eq-eqb, ne-eqb}
+use borrow.Author.Tests.{lt-ltb, le-ltb, eq-eqb}
 use Rattle.model.specs.Arena.{State, nodeLinks, nodeWords, headWords, freeWords, absent, firstSlot, firstFree, inList, inLists, inFree, recordOf, records, header, encode}
 use Rattle.model.specs.Cells.{recordAt}
-use Rattle.model.specs.Links.{target, distance}
-use Rattle.model.specs.Nodes.{Node, node, N}
+use Rattle.model.specs.Nodes.{Node}
 use Rattle.model.specs.Passes.{chain, freeChain, listsFrom, decode, times, timesAll, timesFree, Sound}
-use Rattle.model.proofs.Tests.{Same, same, other, same?, Test, hit, miss, test}
+use Rattle.model.proofs.Tests.{same, other, same?, hit, miss, test}
 
 -- every record has its length
 length-links : (l n ht : ℕ) (ys : List Node) → length (nodeLinks l n ht ys) ≡ 2 * n

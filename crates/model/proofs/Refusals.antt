@@ -1,23 +1,23 @@
 -- "The lowest number that applies is given": of the rows that apply to a call `refusal` gives the lowest, and 0 where none applies.
 -- Rests on specs/Refusals (the table) and ByKey (a key is found exactly when it is there).
-use Prim.Native.Nat.{ℕ, zero, suc, _≤_, _<_}
-use mathlib.Core.Path.{_≡_, refl, sym, ap, _∙_}
-use mathlib.Core.Logic.{_≢_, _⊎_, inl, inr}
+use Prim.Native.Nat.{ℕ, suc, _≤_, _<_}
+use mathlib.Core.Path.{_≡_, refl, ap}
+use mathlib.Core.Logic.{_≢_, inl, inr}
 use mathlib.Core.Bool.{Bool, true, false, cond}
 use mathlib.Core.List.{List, [], _∷_}
-use lib.Dec.{leb, ltb, eqb}
+use lib.Dec.{leb}
 use lib.ListN.{length}
 use native.Mathlib.Omega.{arith}
 use borrow.Author.Tests.{le-ltb, lt-leb, eq-eqb}
 use Rattle.model.specs.Arena.{State, listOf}
-use Rattle.model.specs.Calls.{Call, search, read, insertKey, removeKey, removeIndex, truncate, clear, splitAt, splitKey, appendList, middle, level, refusal, row3, row4, row7, row8, names}
-use Rattle.model.specs.Nodes.{Node, keyAt}
+use Rattle.model.specs.Calls.{Call, search, read, insertKey, removeKey, removeIndex, truncate, clear, splitAt, splitKey, appendList, middle, level, refusal, row3, row4, row7, names}
+use Rattle.model.specs.Nodes.{Node}
 use Rattle.model.specs.Passes.{Sound}
 use Rattle.model.specs.Refusals.{Past, Applies, no-list, same-lists, too-high, none-free, not-empty-at, not-empty-key, read-past, remove-past, split-past, no-middle, no-key, over}
 use Rattle.model.specs.Walks.{ended, isFound, keyWalk}
 use Rattle.model.proofs.ByKey.{key-missing, key-found}
 use Rattle.model.proofs.Keeps.{sorted-list}
-use Rattle.model.proofs.Tests.{Same, same, other, same?, Test, hit, miss, test}
+use Rattle.model.proofs.Tests.{same, other, same?, hit, miss, test}
 
 -- ---- what is given applies ----
 -- P of the number that a row gives, from P of it where the row's test fails and of the later rows where it holds

@@ -3,11 +3,11 @@
 -- no such run. Rests on Records (words read back), EveryCall (every call leaves an arena that passes) and Unique (one call).
 use Prim.Native.Nat.{ℕ}
 use mathlib.Core.Path.{_≡_, refl, sym, ap, ap₂, _∙_, subst}
-use mathlib.Core.List.{List, [], _∷_, map}
+use mathlib.Core.List.{List, _∷_, map}
 use lib.ListN.{length}
 use Rattle.model.specs.Arena.{State, encode, setUp}
-use Rattle.model.specs.Calls.{Call, Answer, answerTo, resultOf, refused, Promise, Room, SetUpPromise}
-use Rattle.model.specs.Passes.{decode, Sound, Sizes, Ranges, Passes}
+use Rattle.model.specs.Calls.{Call, Answer, resultOf, refused, Room, SetUpPromise}
+use Rattle.model.specs.Passes.{decode, Sound, Sizes, Passes}
 use Rattle.model.specs.Sequences.{answersTo, resultsOf, Run, done, next}
 use Rattle.model.proofs.Builds.{passes-encode}
 use Rattle.model.proofs.EveryCall.{passes-after, sound-after, sound-after-all, set-up-sound, set-up-sizes}

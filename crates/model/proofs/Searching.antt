@@ -4,17 +4,17 @@ use Prim.Native.Nat.{ℕ, zero, suc, _+_, _-_, _≤_, _<_}
 use mathlib.Core.Path.{_≡_, refl, sym, ap, ap₂, _∙_}
 use mathlib.Core.Bool.{Bool, true, false, cond}
 use mathlib.Core.List.{List, [], _∷_}
-use lib.Dec.{leb, ltb, eqb, eqb·suc-zero}
+use lib.Dec.{ltb, eqb, eqb·suc-zero}
 use lib.ListN.{length, drop, getD, length-drop}
 use lib.Seq.{drop-drop, getD-drop}
 use native.Mathlib.Nat.{zero-add, suc-sub-suc}
 use native.Mathlib.Omega.{arith}
-use borrow.Author.Tests.{le-leb, lt-ltb, le-ltb}
+use borrow.Author.Tests.{le-leb, le-ltb}
 use Rattle.model.specs.Links.{distance}
 use Rattle.model.specs.Nodes.{Node, node, N, keyAt, at, smaller, smallerKeys, Above, Sorted}
 use Rattle.model.specs.Walks.{Stand, stand, along, descend, precursors, End, found, missing, ended, isFound, placeOf, byNext, keyWalk, go, asks, ends, tally, stops, keyIs}
 use Rattle.model.proofs.Steps.{absent-step, smaller-step, other-step}
-use Rattle.model.proofs.Tests.{Test, hit, miss, test}
+use Rattle.model.proofs.Tests.{hit, miss, test}
 use Rattle.model.proofs.Walk.{above-trans}
 
 -- ---- along one level ----

@@ -1,23 +1,20 @@
--- A split, and an append that undoes it: what changes in the records.
-use Prim.Native.Nat.{ℕ, zero, suc, _+_, _-_, _*_, _≤_, _<_}
+-- A split, and an append that undoes it: what changes in the records. Rests on Hang.
+use Prim.Native.Nat.{ℕ, zero, suc, _≤_, _<_}
 use mathlib.Core.Path.{_≡_, refl, sym, ap, _∙_, subst}
 use mathlib.Core.Logic.{_≢_, _⊎_, inl, inr}
 use mathlib.Core.List.{List, [], _∷_, _++_, append-nil, append-assoc}
-use lib.ListN.{length, take, drop, getD, set, length-set, length-append, length-drop, take-append-drop, drop-of-length-le}
-use lib.Seq.{getD-set-same, getD-set-other, lt-length-set, drop-append-le, length-take-le, getD-take, drop-at, take-at, getD-append-seam}
-use native.Mathlib.Nat.{zero-add, suc-add}
+use lib.ListN.{length, take, drop, getD, set, length-set, length-append, take-append-drop}
+use lib.Seq.{getD-set-same, getD-set-other, lt-length-set, getD-take}
 use native.Mathlib.Omega.{arith}
-use Rattle.model.specs.Arena.{State, nodeWords, headWords, lastSlot, listOf, recordOf, slots-of}
+use Rattle.model.specs.Arena.{State, headWords, lastSlot, listOf, recordOf, slots-of}
 use Rattle.model.specs.Calls.{doSplit}
 use Rattle.model.specs.Nodes.{Node, node, N, slotAt, at}
 use Rattle.model.specs.Passes.{Sound}
-use Rattle.model.specs.Walks.{last}
 use Rattle.model.proofs.Hang.{InA, its-head, its-node, Hung}
 use Rattle.model.proofs.Keeps.{sound-split}
-use Rattle.model.proofs.Owners.{Place, head, listed, freed, place}
+use Rattle.model.proofs.Owners.{head, listed, freed, place}
 use Rattle.model.proofs.Records.{head-words, node-words, free-words, slot-of}
-use Rattle.model.proofs.Tests.{Same, same, other, same?, Test, hit, miss, test}
-use Rattle.model.proofs.Walk.{last-le, last-zero}
+use Rattle.model.proofs.Tests.{same, other, same?}
 
 abbrev pub withLists : State → List (List Node) → State
 withLists Z ls = record { levels = Z .levels; room = Z .room; lists = ls; free = Z .free }

@@ -1,17 +1,16 @@
--- "Nodes in a list keep slot and height unless stated": after any call but levelling a node that stands in a list stood in one before, with the same
--- slot, key and height, or is the one just inserted. Levelling keeps slots and keys (Leaves, `level-heights`). Rests on EveryCall.
-use Prim.Native.Nat.{ℕ, zero, suc, _<_}
-use mathlib.Core.Path.{_≡_, refl, sym, ap, _∙_, subst}
-use mathlib.Core.Logic.{_≢_, _⊎_, inl, inr}
-use mathlib.Core.Bool.{Bool, true, false, cond}
+-- "Nodes in a list keep slot and height unless stated": after any call a node that stands in a list stood in one before, with the same slot, key
+-- and height, or is the one inserted, or one that was levelled, with its slot and key. Rests on EveryCall and Ordering.
+use Prim.Native.Nat.{ℕ, zero, suc}
+use mathlib.Core.Path.{_≡_, refl, ap}
+use mathlib.Core.Logic.{_⊎_, inl, inr}
 use mathlib.Core.List.{List, [], _∷_, _++_}
-use lib.Dec.{leb, ltb}
-use lib.ListN.{length, take, drop, getD, set}
+use lib.ListN.{take, drop, getD, set}
 use Rattle.model.specs.Arena.{State, listOf, firstFree}
 use Rattle.model.specs.Calls.{Call, search, read, insertKey, removeKey, removeIndex, truncate, clear, splitAt, splitKey, appendList, middle, level, insertIn, doSplit, doLevel, performed, resultOf}
-use Rattle.model.specs.Lists.{insertAt, insert, removeAt, mergeIn, append, lastKey, levelFrom}
-use Rattle.model.specs.Nodes.{Node, node, N, smaller}
+use Rattle.model.specs.Lists.{insertAt, insert, removeAt, mergeIn, append, levelFrom}
+use Rattle.model.specs.Nodes.{Node, node, smaller}
 use Rattle.model.proofs.EveryCall.{after-any}
+use Rattle.model.proofs.Ordering.{by-case}
 
 -- y is one of these nodes; stands in a list of the model
 abbrev pub Has : Node → List Node → Type 0
@@ -57,14 +56,11 @@ has-merge y (b ∷ bb) aa h = elim (has-merge y bb (insert b aa) h) [
 ]
 
 has-append : (y : Node) (aa bb : List Node) → Has y (append aa bb) → Has y aa ⊎ Has y bb
-has-append y aa [] h = inl h
-has-append y [] (b ∷ bb) h = inr h
-has-append y (a ∷ aa) (b ∷ bb) h = pick (leb (lastKey (a ∷ aa)) (b .key)) (leb (lastKey (b ∷ bb)) (a .key)) h
-  where
-    pick : (p q : Bool) → Has y (cond p ((a ∷ aa) ++ (b ∷ bb)) (cond q ((b ∷ bb) ++ (a ∷ aa)) (mergeIn (b ∷ bb) (a ∷ aa)))) → Has y (a ∷ aa) ⊎ Has y (b ∷ bb)
-    pick true q h = has-both y (a ∷ aa) (b ∷ bb) h
-    pick false true h = elim (has-both y (b ∷ bb) (a ∷ aa) h) [ inl r ↦ inr r | inr r ↦ inl r ]
-    pick false false h = has-merge y (b ∷ bb) (a ∷ aa) h
+has-append y aa [] = inl
+has-append y [] (b ∷ bb) = inr
+has-append y (a ∷ aa) (b ∷ bb) =
+    by-case (λ cs. Has y cs → Has y (a ∷ aa) ⊎ Has y (b ∷ bb)) a aa b bb
+    (λ e. has-both y (a ∷ aa) (b ∷ bb)) (λ e h. elim (has-both y (b ∷ bb) (a ∷ aa) h) [ inl r ↦ inr r | inr r ↦ inl r ]) (has-merge y (b ∷ bb) (a ∷ aa))
 
 -- ---- models ----
 has-set : (y : Node) (xss : List (List Node)) (a : ℕ) (xs : List Node) (z : ℕ) → Has y (getD (set xss a xs) z []) → Has y xs ⊎ Has y (getD xss z [])

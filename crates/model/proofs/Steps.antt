@@ -1,17 +1,15 @@
--- One look at a stored link: what a step of the code does to the walk that the model defines.
+-- One look at a link: what a step of the walk by key does to its closed form. Rests on specs/Walks.
 use Prim.Native.Nat.{ℕ, zero, suc, _+_, _≤_, _<_}
-use mathlib.Core.Path.{_≡_, refl, sym, ap, _∙_}
-use mathlib.Core.Bool.{Bool, true, false, cond}
+use mathlib.Core.Path.{_≡_, refl, sym, _∙_}
 use mathlib.Core.List.{List, [], _∷_}
-use lib.Dec.{leb, ltb}
-use lib.ListN.{length, drop, getD}
-use native.Mathlib.Nat.{suc-inj, zero-add, suc-ne-zero, suc-add}
+use lib.ListN.{drop}
+use native.Mathlib.Nat.{suc-ne-zero}
 use native.Mathlib.Omega.{arith}
 use borrow.Author.Tests.{lt-ltb, le-ltb}
 use Rattle.model.specs.Links.{further, distance, target}
-use Rattle.model.specs.Nodes.{Node, node, N, at}
+use Rattle.model.specs.Nodes.{Node, at}
 use Rattle.model.specs.Walks.{go, asks}
-use Rattle.model.proofs.Tests.{Test, hit, miss, test}
+use Rattle.model.proofs.Tests.{hit, miss, test}
 
 pub further-zero : (d : ℕ) → further d ≡ 0 → d ≡ 0
 further-zero zero e = refl
@@ -20,6 +18,13 @@ further-zero (suc d) e = omega arith
 pub further-one : (d e : ℕ) → further d ≡ suc e → d ≡ e × (1 ≤ e)
 further-one zero e p = omega arith
 further-one (suc d) e p = omega arith
+
+pub further-add : (d n : ℕ) → further (suc d + n) ≡ suc (suc d + n)
+further-add d n = further-pos (suc d + n) (omega arith)
+  where
+    further-pos : (k : ℕ) → 0 < k → further k ≡ suc k
+    further-pos zero l = absurd (omega arith)
+    further-pos (suc k) l = refl
 
 -- an absent link: no comparison, nothing gone on
 pub absent-step : (h t : ℕ) (ys : List Node) → distance h ys ≡ 0 → (go h t ys ≡ 0) × (asks h t ys ≡ 0)
@@ -44,11 +49,8 @@ smaller-step h t (y ∷ ys) (suc d) e k = elim (test h (y .height)) [
   | hit f p ↦ absurd (omega (arith, rw f at e))
   | miss f p ↦
       let i = smaller-step h t ys d (further-one (distance h ys) (suc d) (rw f at e) .0) k in
-      record { gone = rw (f, i .gone) (up d (go h t (drop (suc d) ys))); asked = rw f (i .asked) }
+      record { gone = rw (f, i .gone) (further-add d (go h t (drop (suc d) ys)) ∙ omega arith); asked = rw f (i .asked) }
 ]
-  where
-    up : (a b : ℕ) → further (suc a + b) ≡ suc (suc a) + b
-    up a b = ap further (suc-add a b) ∙ omega arith
 
 -- a present link to a key that is not smaller: one comparison, and down
 pub other-step : (h t : ℕ) (ys : List Node) (d : ℕ) → distance h ys ≡ suc d → t ≤ at ys d .key → (go h t ys ≡ 0) × (asks h t ys ≡ 1)

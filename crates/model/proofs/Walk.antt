@@ -1,20 +1,19 @@
--- The walk by key over a list whose keys never fall.
-use Prim.Native.Nat.{ℕ, zero, suc, _+_, _-_, _*_, _≤_, _<_, pred, min, max}
+-- The closed form of the walk by key, on a list cut into the keys below the target and the others: where it ends, and the first limit of its
+-- tally. Stage h runs through the nodes of height h and more, so that level l is stage l + 1. Rests on specs/Walks.
+use Prim.Native.Nat.{ℕ, zero, suc, _+_, _≤_}
 use mathlib.Core.Path.{_≡_, refl, sym, ap, _∙_}
-use mathlib.Core.Bool.{Bool, true, false, cond}
-use mathlib.Core.List.{List, [], _∷_, _++_, append-nil}
-use lib.Dec.{leb, ltb, eqb}
-use lib.ListN.{length, take, drop, getD, take-append-drop, length-drop, length-take}
+use mathlib.Core.Bool.{cond}
+use mathlib.Core.List.{List, [], _∷_, _++_}
+use lib.Dec.{leb}
+use lib.ListN.{length, take, drop, take-append-drop, length-drop}
 use lib.Seq.{drop-append-le, length-take-le}
-use native.Mathlib.Decide.{decLe}
-use native.Mathlib.Nat.{lt-of-not-le, zero-add, add-zero}
+use native.Mathlib.Nat.{zero-add}
 use native.Mathlib.Omega.{arith}
-use borrow.Author.Tests.{le-leb, lt-leb, lt-ltb, le-ltb}
-use Rattle.model.specs.Gaps.{gapAt, gap}
+use borrow.Author.Tests.{le-leb, lt-ltb, le-ltb}
 use Rattle.model.specs.Links.{further}
 use Rattle.model.specs.Nodes.{Node, smaller, Below, Above, Sorted}
 use Rattle.model.specs.Walks.{last, go, asks, ends, tally}
-use Rattle.model.proofs.Tests.{Test, hit, miss, test}
+use Rattle.model.proofs.Tests.{hit, miss, test}
 
 -- how many are of height h or more; whether any
 abbrev pub tall : ℕ → List Node → ℕ

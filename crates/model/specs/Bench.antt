@@ -5,7 +5,7 @@ use mathlib.Core.List.{List, [], _∷_, map}
 use Rattle.model.specs.Nodes.{Node, N, keys, slotAt}
 use Rattle.model.specs.Walks.{Stand, stand, precursors}
 use Rattle.model.specs.Arena.{State, encode, setUp, listOf}
-use Rattle.model.specs.Calls.{Call, search, insertKey, splitAt, splitKey, appendList, middle, level, Answer, answer, answerTo, resultOf}
+use Rattle.model.specs.Calls.{search, insertKey, splitAt, splitKey, appendList, middle, level, answer, answerTo, resultOf}
 use Rattle.model.specs.Sequences.{resultsOf}
 
 -- "Q is 10, 20, 20, 30 levelled at M = 2".

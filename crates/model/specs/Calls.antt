@@ -1,14 +1,14 @@
 -- The calls: what each does to a model, which refusal it gives, what it answers, and the promise that every public call makes of words.
 -- Rests on Walks, Lists, Arena and Passes.
-use Prim.Native.Nat.{ℕ, zero, suc, _+_, _*_}
+use Prim.Native.Nat.{ℕ, suc, _+_, _*_}
 use mathlib.Core.Path.{_≡_}
 use mathlib.Core.Logic.{_≢_}
-use mathlib.Core.Bool.{Bool, true, false, cond}
+use mathlib.Core.Bool.{Bool, true, cond}
 use mathlib.Core.List.{List, [], _∷_, _++_}
 use lib.Dec.{leb, ltb, eqb}
 use lib.ListN.{length, take, drop}
-use Rattle.model.specs.Nodes.{Node, node, keyAt, slotAt, smaller}
-use Rattle.model.specs.Walks.{End, ended, isFound, placeOf, keyWalk}
+use Rattle.model.specs.Nodes.{node, keyAt, slotAt, smaller}
+use Rattle.model.specs.Walks.{ended, isFound, placeOf, keyWalk}
 use Rattle.model.specs.Lists.{insert, removeAt, freed, append, middleOf, levelFrom}
 use Rattle.model.specs.Arena.{State, width, listOf, putList, encode, setUp}
 use Rattle.model.specs.Passes.{decode, Ranges, Passes}

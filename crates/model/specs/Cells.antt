@@ -1,6 +1,5 @@
 -- Words by slot and column: where word c of the record of slot s stands. Rests on Arena's width.
 use Prim.Native.Nat.{ℕ, _+_, _*_, _≤_, _<_}
-use mathlib.Core.Path.{_≡_}
 use mathlib.Core.List.{List}
 use lib.ListN.{length, take, drop, getD, set}
 
