@@ -10,13 +10,19 @@ use native.Mathlib.Omega.{arith}
 use borrow.Author.Tests.{lt-ltb, le-ltb, le-leb, lt-leb, eq-eqb, ne-eqb}
 use Rattle.model.specs.Arena.{State, encode, listOf}
 use Rattle.model.specs.Passes.{decode, Passes}
-use Rattle.model.specs.Calls.{Call, Answer, answer, refusal, accepted, refused, allowanceOf, performed, answerTo, resultOf, row3, row8}
+use Rattle.model.specs.Calls.{Call, Answer, answer, refusal, accepted, refused, allowanceOf, performed, answerTo, resultOf, row3, row4}
 use Rattle.arena.proofs.Places.{length-encode}
 use Rattle.checked.specs.Kept.{Kept}
 
 -- ---- the rows ----
 pub row3-refuses : (S : State) (a later : ℕ) → length (S .lists) ≤ a → row3 S a later ≡ 3
 row3-refuses S a later l = rw (le-ltb a (length (S .lists)) l) refl
+
+pub row4-refuses : (a b later : ℕ) → a ≡ b → row4 a b later ≡ 4
+row4-refuses a b later e = rw (eq-eqb a b e) refl
+
+pub row4-passes : (a b later : ℕ) → a ≢ b → row4 a b later ≡ later
+row4-passes a b later n = rw (ne-eqb a b n) refl
 
 pub row3-passes : (S : State) (a later : ℕ) → a < length (S .lists) → row3 S a later ≡ later
 row3-passes S a later l = rw (lt-ltb a (length (S .lists)) l) refl
@@ -37,6 +43,21 @@ module _ {w : List ℕ} (p : Passes w) where
   -- "3: a list number is L or more", where it is the first row that is asked
   pub no-list : (c : Call) (a later : ℕ) → refusal (decode w) c ≡ row3 (decode w) a later → length (decode w .lists) ≤ a → Kept c w w (answer 3 0 0 0 0)
   no-list c a later e l = refuses c 3 (e ∙ row3-refuses (decode w) a later l) (λ z. omega (arith, z)) (λ z. omega (arith, z))
+
+  pub one-list : (c : Call) (a later : ℕ) → refusal (decode w) c ≡ row3 (decode w) a later → a < length (decode w .lists) → refusal (decode w) c ≡ later
+  one-list c a later e l = e ∙ row3-passes (decode w) a later l
+
+  -- two list numbers, and "4: the two lists named are the same"
+  module _ (c : Call) (a b later : ℕ) (e : refusal (decode w) c ≡ row3 (decode w) a (row3 (decode w) b (row4 a b later))) (la : a < length (decode w .lists)) where
+    pub no-second : length (decode w .lists) ≤ b → Kept c w w (answer 3 0 0 0 0)
+    no-second l = refuses c 3 (e ∙ row3-passes (decode w) a _ la ∙ row3-refuses (decode w) b _ l) (λ z. omega (arith, z)) (λ z. omega (arith, z))
+
+    pub same-list : b < length (decode w .lists) → a ≡ b → Kept c w w (answer 4 0 0 0 0)
+    same-list l q =
+        refuses c 4 (e ∙ row3-passes (decode w) a _ la ∙ row3-passes (decode w) b _ l ∙ row4-refuses a b later q) (λ z. omega (arith, z)) (λ z. omega (arith, z))
+
+    pub two-lists : b < length (decode w .lists) → a ≢ b → refusal (decode w) c ≡ later
+    two-lists l n = e ∙ row3-passes (decode w) a _ la ∙ row3-passes (decode w) b _ l ∙ row4-passes a b later n
 
   pub accepts : (c : Call) {u : List ℕ} {r : Answer} → refusal (decode w) c ≡ 0 → r ≡ accepted (decode w) c → u ≡ encode (performed (decode w) c) → Kept c w u r
   accepts c e a b = record { answered = rw (eq-eqb (refusal (decode w) c) 0 e) a; left = rw (eq-eqb (refusal (decode w) c) 0 e) b }
