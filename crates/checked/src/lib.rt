@@ -7,6 +7,8 @@ pub use numbers::of_key;
 pub use numbers::of_plain;
 pub use numbers::of_search;
 pub use numbers::refusal_number;
+pub use reading::middle;
+pub use reading::read;
 pub use reading::search;
 
 ghost use mathlib.Core.Path.{_≡_};

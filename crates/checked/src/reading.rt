@@ -32,3 +32,31 @@ pub fn search(w: &[u32], list: Slot, key: u32, allowance: u32) -> SearchAnswer
     }
     carried(walk::search(w, super::levels(w), list, key, allowance))
 }
+
+pub fn read(w: &[u32], list: Slot, i: Index) -> KeyAnswer
+    requires { ⌜ Passes (now w) ⌝ }
+    ensures { λ r. ⌜ Kept (read (list .0) (i .0)) (now (w .entry)) (now (w .entry)) (keyTold r) ⌝ }
+{
+    if super::lists(w) <= list.0 {
+        return KeyAnswer::Refused(Refusal::NoList);
+    }
+    let m = super::levels(w);
+    if walk::length(w, m, list) <= i.0 {
+        return KeyAnswer::Refused(Refusal::PastEnd);
+    }
+    KeyAnswer::Is(walk::read(w, m, list, i))
+}
+
+pub fn middle(w: &[u32], list: Slot) -> KeyAnswer
+    requires { ⌜ Passes (now w) ⌝ }
+    ensures { λ r. ⌜ Kept (middle (list .0)) (now (w .entry)) (now (w .entry)) (keyTold r) ⌝ }
+{
+    if super::lists(w) <= list.0 {
+        return KeyAnswer::Refused(Refusal::NoList);
+    }
+    let m = super::levels(w);
+    if walk::length(w, m, list) == 0 {
+        return KeyAnswer::Refused(Refusal::PastEnd);
+    }
+    KeyAnswer::Is(walk::middle(w, m, list))
+}

@@ -16,7 +16,7 @@ use Rattle.model.specs.Passes.{decode, nodes}
 use Rattle.model.proofs.Searching.{walk-found, walk-place, walk-tally}
 use Rattle.arena.specs.Owners.{Listed}
 use Rattle.walk.specs.Standing.{At}
-use Rattle.walk.specs.Answers.{Gone, Ended, Followed, answerOf}
+use Rattle.walk.specs.Answers.{Gone, Finished, Followed, answerOf}
 use Rattle.walk.specs.declared.Visitor.{Visitor}
 use Rattle.walk.specs.declared.Searched.{Searched}
 use Rattle.walk.specs.declared.Searched.the-variants.{Found, Missing, Beyond}

@@ -15,8 +15,8 @@ use Rattle.model.specs.Passes.{decode, nodes}
 use Rattle.model.proofs.Tests.{Test, hit, miss, test}
 use Rattle.model.proofs.Steps.{further-one, target-at}
 use Rattle.model.proofs.Counting.{list-few}
-use Rattle.arena.specs.Owners.{Owner}
-use Rattle.arena.proofs.Places.{word-rec, fits, slot-in, linked, link-to, link-far, key-word}
+use Rattle.arena.specs.Owners.{Owner, Listed}
+use Rattle.arena.proofs.Places.{word-rec, fits, slot-in, linked, link-to, link-far, key-word, length-word}
 use Rattle.walk.specs.Standing.{At}
 
 -- a link goes to a node of its stage, within the list
@@ -67,6 +67,15 @@ look {w} {a} {r} {s} {h} o to e = by (distance h (drop r (nodes w a))) refl
         = record { passes = o .passes; list = o .list; within = i; slot-is = sl; tall = rw b at (k .1); level = o .level } in
         there d (omega (arith, slot-in o′, o .passes .sizes)) f o′
 
+-- the slot at a rank, with no link in view
+pub standing : {w : List ℕ} {m a s : ℕ} (r : ℕ) → Listed w m a → r ≤ length (nodes w a) → s ≡ slotAt a (nodes w a) r → At w m a (length (nodes w a)) 0 s r
+standing r g l e = record {
+  owner = record { passes = g .passes; list = g .list; within = l; slot-is = e; tall = omega arith; level = omega arith };
+  levels = g .levels;
+  before = l;
+  within = omega arith;
+}
+
 module _ {w : List ℕ} {m a i h s r : ℕ} (g : At w m a i h s r) where
   pub small : m ≤ 16
   small = omega (arith, g .levels, g .owner .passes .sizes .levels-most)
@@ -107,3 +116,8 @@ module _ {w : List ℕ} {m a i h s r : ℕ} (g : At w m a i h s r) where
   pub owner-key : (j : ℕ) → r ≡ suc j → cellAt m w s 0 ≡ keyAt (nodes w a) j
   owner-key j e =
       in-record 0 (omega arith) ∙ (rw (g .owner .slot-is, e) (key-word w (g .owner .passes) a (g .owner .list) j (omega (arith, g .owner .within))))
+
+-- the head's first word is the length
+pub length-cell : {w : List ℕ} {m a : ℕ} → Listed w m a → cellAt m w a 0 ≡ length (nodes w a)
+unfolding cellAt
+length-cell {w} {m} {a} g = rw (g .levels) (sym (length-word w (g .passes) a (g .list)))

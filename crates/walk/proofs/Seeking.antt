@@ -66,7 +66,7 @@ module _ {w : List ℕ} {m a i h s r : ℕ} (g : At w m a i h s r) where
           last-ge h (take i xs) j (omega (arith, length-take-le i xs (g .within))) (rw (getD-take i xs j (node N 0 0) l) t)
 
   -- and where no link leads on within i, it is the last
-  sought : (0 < distance h (drop r xs) → i < r + distance h (drop r xs)) → Sought w m a i h s r
+  pub sought : (0 < distance h (drop r xs) → i < r + distance h (drop r xs)) → Sought w m a i h s r
   sought f = record { at = g; last-one = by (last h (take i xs)) refl }
     where
       by : (k : ℕ) → last h (take i xs) ≡ k → r ≡ last h (take i xs)

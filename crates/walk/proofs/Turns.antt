@@ -18,7 +18,7 @@ use Rattle.model.proofs.Tests.{Test, hit, miss, test}
 use Rattle.model.proofs.Steps.{absent-step, smaller-step, other-step}
 use Rattle.arena.specs.Owners.{Owner}
 use Rattle.walk.specs.Standing.{At}
-use Rattle.walk.specs.Answers.{Gone, Ended}
+use Rattle.walk.specs.Answers.{Gone, Finished}
 use Rattle.walk.proofs.Looks.{Look, nothing, there, look, cell-here, owner-key}
 
 -- where a present link leads: an owner d + 1 ranks on, whose key can be read
@@ -34,6 +34,12 @@ ahead {w} {m} {a} {i} {h} {s} {r} {to} g e ne = elim (look (g .owner) to e) [
       let k : At w m a (length (nodes w a)) h to (suc (r + d)) = record { owner = o; levels = g .levels; before = o .within; within = omega arith } in
       (d, record { far = y; at = k; key = owner-key k (r + d) refl ∙ sym (ap (λ (y : Node). y .key) (getD-drop r (nodes w a) d (node N 0 0))) })
 ]
+
+pub key-cell : {w : List ℕ} {m a i h s r to : ℕ} → At w m a i h s r → to ≡ target h (drop r (nodes w a)) → (to ≡ N → ⊥) → Cell w m to 0
+key-cell g e ne = cell-here (ahead g e ne .1 .at) 0 (omega arith)
+
+pub far-pos : {w : List ℕ} {m a i h s r to far : ℕ} → At w m a i h s r → to ≡ target h (drop r (nodes w a)) → (to ≡ N → ⊥) → far ≡ distance h (drop r (nodes w a)) → 0 < far
+far-pos g e ne f = omega (arith, ahead g e ne .1 .far)
 
 -- the walk along stage h for target t, from rank r₀ with n₀ comparisons left, has come to slot s at rank r with n left
 pub record Going (w : List ℕ) (m a h t r₀ n₀ s r n : ℕ) : Type 0 where
@@ -55,9 +61,6 @@ module _ {w : List ℕ} {m a h t r₀ n₀ s r n : ℕ} (g : Going w m a h t r�
   ]
 
   module _ (ne : to ≡ N → ⊥) where
-    pub key-cell : Cell w m to 0
-    key-cell = cell-here (ahead (g .at) e ne .1 .at) 0 (omega arith)
-
     asks-pos : 0 < asks h t (drop r (nodes w a))
     asks-pos = let k = ahead (g .at) e ne in elim (test t (keyAt (drop r (nodes w a)) (k .0))) [
       | hit f p ↦ omega (arith, other-step h t (drop r (nodes w a)) (k .0) (k .1 .far) p .1)
@@ -89,11 +92,11 @@ module _ {w : List ℕ} {m a h t r₀ n₀ s r n : ℕ} (g : Going w m a h t r�
           }
 
 -- ---- the last stage, by next ----
-key-none : (t : ℕ) (ys : List Node) → distance 0 ys ≡ 0 → keyIs t ys ≡ false
+pub key-none : (t : ℕ) (ys : List Node) → distance 0 ys ≡ 0 → keyIs t ys ≡ false
 key-none t [] e = refl
 key-none t (y ∷ ys) e = absurd (omega (arith, rw (le-leb 0 (y .height) (omega arith)) at e))
 
-key-first : (t : ℕ) (ys : List Node) (d : ℕ) → distance 0 ys ≡ suc d → keyIs t ys ≡ eqb (keyAt ys d) t
+pub key-first : (t : ℕ) (ys : List Node) (d : ℕ) → distance 0 ys ≡ suc d → keyIs t ys ≡ eqb (keyAt ys d) t
 key-first t [] d e = absurd (omega (arith, e))
 key-first t (y ∷ ys) zero e = refl
 key-first t (y ∷ ys) (suc d) e = absurd (omega (arith, rw (le-leb 0 (y .height) (omega arith)) at e))
@@ -106,7 +109,7 @@ next-far {w} {m} {a} {i} {s} {r} g e ne = let k = ahead g e ne in one (drop r (n
     one (y ∷ ys) d f = rw (le-leb 0 (y .height) (omega arith)) refl
 
 module _ {w : List ℕ} {m a t r₀ n₀ s r n : ℕ} (g : Going w m a 0 t r₀ n₀ s r n) {allowance : ℕ} (l : n₀ ≤ allowance) (to : ℕ) (e : to ≡ target 0 (drop r (nodes w a))) where
-  pub ends-absent : to ≡ N → (i : ℕ) → i ≡ r → Ended w a t allowance r₀ n₀ false i (allowance - n)
+  pub ends-absent : to ≡ N → (i : ℕ) → i ≡ r → Finished w a t allowance r₀ n₀ false i (allowance - n)
   ends-absent z i j =
       let k = stop-absent g to e z in
       elim (look (g .at .owner) to e) [
@@ -118,13 +121,13 @@ module _ {w : List ℕ} {m a t r₀ n₀ s r n : ℕ} (g : Going w m a 0 t r₀ 
     key-met : keyIs t (drop r (nodes w a)) ≡ eqb met t
     key-met = let k = ahead (g .at) e ne in key-first t (drop r (nodes w a)) (k .0) (k .1 .far) ∙ ap (λ (x : ℕ). eqb x t) (sym (f ∙ k .1 .key))
 
-    ends-at : (b : Bool) → eqb met t ≡ b → t ≤ met → (i : ℕ) → i ≡ r → Ended w a t allowance r₀ n₀ b i (allowance - (n - 1))
+    ends-at : (b : Bool) → eqb met t ≡ b → t ≤ met → (i : ℕ) → i ≡ r → Finished w a t allowance r₀ n₀ b i (allowance - (n - 1))
     ends-at b q p i j =
         let k = stop-other g to e ne pos met f p in
         rw j (record { place = k .rank; is = key-met ∙ q; spent = omega (arith, k .left, g .fall); within = omega arith })
 
-    pub ends-greater : t < met → (i : ℕ) → i ≡ r → Ended w a t allowance r₀ n₀ false i (allowance - (n - 1))
+    pub ends-greater : t < met → (i : ℕ) → i ≡ r → Finished w a t allowance r₀ n₀ false i (allowance - (n - 1))
     ends-greater p i j = ends-at false (ne-eqb met t (λ z. omega arith)) (omega arith) i j
 
-    pub ends-equal : t ≡ met → (i : ℕ) → i ≡ r → Ended w a t allowance r₀ n₀ true i (allowance - (n - 1))
+    pub ends-equal : t ≡ met → (i : ℕ) → i ≡ r → Finished w a t allowance r₀ n₀ true i (allowance - (n - 1))
     ends-equal p i j = ends-at true (eq-eqb met t (sym p)) (omega arith) i j

@@ -37,13 +37,13 @@ Hopped w m a h t u (On v) = Gone w m a h t (u .rank .0) (u .left) (v .slot .0) (
 Hopped w m a h t u Over = u .left < asks h t (drop (u .rank .0) (nodes w a))
 
 -- The last stage, by next, ends at index or place i with n comparisons in all; `met` says whether the key is there.
-pub record Ended (w : List ℕ) (a t allowance r₀ n₀ : ℕ) (met : Bool) (i n : ℕ) : Type 0 where
+pub record Finished (w : List ℕ) (a t allowance r₀ n₀ : ℕ) (met : Bool) (i n : ℕ) : Type 0 where
   pub place : i ≡ r₀ + go 0 t (drop r₀ (nodes w a))
   pub is : keyIs t (drop i (nodes w a)) ≡ met
   pub spent : n + n₀ ≡ allowance + asks 0 t (drop r₀ (nodes w a))
   pub within : n ≤ allowance
 
 abbrev pub Followed : List ℕ → ℕ → ℕ → ℕ → Visitor → Searched → Type 0
-Followed w a t allowance u (Found i n) = Ended w a t allowance (u .rank .0) (u .left) true (i .0) n
-Followed w a t allowance u (Missing i n) = Ended w a t allowance (u .rank .0) (u .left) false (i .0) n
+Followed w a t allowance u (Found i n) = Finished w a t allowance (u .rank .0) (u .left) true (i .0) n
+Followed w a t allowance u (Missing i n) = Finished w a t allowance (u .rank .0) (u .left) false (i .0) n
 Followed w a t allowance u (Beyond n) = (n ≡ allowance) × (u .left < asks 0 t (drop (u .rank .0) (nodes w a)))

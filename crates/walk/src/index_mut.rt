@@ -5,15 +5,19 @@ ghost use lib.ListN.{length};
 ghost use Rattle.model.specs.Nodes.{slotAt};
 ghost use Rattle.model.specs.Passes.{nodes};
 ghost use Rattle.arena.specs.Owners.{Listed, Leads};
+ghost use Rattle.walk.specs.Ranks.{ByRank};
 ghost use Rattle.walk.specs.Standing.{At, Sought};
+use crate::Ended;
+use crate::Reached;
 use crate::Spot;
+use crate::index::length as count;
 use arena::Index;
 use arena::Path;
 use arena::Rank;
 use arena::Slot;
 
 // Along level l, as far as rank `limit`.
-fn seek_level(w: &[u32], m: usize, l: usize, list: Slot, from: Spot, limit: Rank) -> Spot
+pub fn seek_level(w: &[u32], m: usize, l: usize, list: Slot, from: Spot, limit: Rank) -> Spot
     requires { ⌜ At (now w) m (list .0) (limit .0) (suc l) (from .slot .0) (from .rank .0) ⌝ }
     ensures { λ z. ⌜ Sought (now (w .entry)) m (list .0) (limit .0) (suc l) (z .slot .0) (z .rank .0) ⌝ }
 {
@@ -35,7 +39,7 @@ fn seek_level(w: &[u32], m: usize, l: usize, list: Slot, from: Spot, limit: Rank
 }
 
 // By next to rank `limit`.
-fn seek_next(w: &[u32], m: usize, list: Slot, from: Spot, limit: Rank) -> Slot
+pub fn seek_next(w: &[u32], m: usize, list: Slot, from: Spot, limit: Rank) -> Slot
     requires { ⌜ At (now w) m (list .0) (limit .0) 0 (from .slot .0) (from .rank .0) ⌝ }
     ensures { λ z. ⌜ z .0 ≡ slotAt (list .0) (nodes (now (w .entry)) (list .0)) (limit .0) ⌝ }
 {
@@ -72,4 +76,38 @@ pub fn seek(w: &[u32], m: usize, list: Slot, i: Index) -> Path
     }
     let end = seek_next(w, m, list, v, limit);
     Path { slots, ranks, end }
+}
+
+// The walk by rank as document 01 tells it: the precursors of a target rank, and where the walk ends.
+pub fn by_rank(w: &[u32], m: usize, list: Slot, target: Rank) -> Reached
+    requires { ⌜ Listed (now w) m (list .0) ⌝ }
+    ensures { λ r. ⌜ ByRank (now (w .entry)) m (list .0) (target .0) r ⌝ }
+{
+    if target.0 == Rank::HEAD.0 {
+        return Reached {
+            slots: [list.0; 16],
+            ranks: [0u32; 16],
+            ended: Ended::At(list),
+        };
+    }
+    let n = count(w, m, list);
+    if n < target.0 {
+        let p = seek(w, m, list, Index(n));
+        let slots = p.slots;
+        let ranks = p.ranks;
+        return Reached {
+            slots,
+            ranks,
+            ended: Ended::None,
+        };
+    }
+    let p = seek(w, m, list, target.to_index());
+    let slots = p.slots;
+    let ranks = p.ranks;
+    let to = arena::cell(w, m, p.end, 2);
+    Reached {
+        slots,
+        ranks,
+        ended: Ended::At(Slot(to)),
+    }
 }

@@ -1,7 +1,8 @@
--- `walk::seek_level` meets its contract. The invariant: whichever list the walk began in, it is still there, no further than the limit.
-use Prim.Native.Nat.{ℕ, suc, _+_, _-_, _*_, _≤_, _<_}
+-- `walk::index_mut::seek_level` meets its contract.
+-- The invariant: in whichever list the walk began, it is still there, no further than the limit.
+use Prim.Native.Nat.{ℕ, suc, _+_, _-_, _*_}
 use native.Mathlib.Omega.{arith}
-use Rattle.walk.specs.Standing.{At, Sought}
+use Rattle.walk.specs.Standing.{At}
 use Rattle.walk.proofs.Looks.{small, few, cell-here}
 use Rattle.walk.proofs.Seeking.{ends-here, ends-there, goes-on}
 use Rattle.walk.proofs.index_mut.seek_level.Statement.{statement}

@@ -1,4 +1,5 @@
--- `walk::seek_next` meets its contract. The invariant: whichever list the walk began in, it is still there, no further than the limit.
+-- `walk::index_mut::seek_next` meets its contract.
+-- The invariant: in whichever list the walk began, it is still there, no further than the limit.
 use Prim.Native.Nat.{ℕ, _-_}
 use native.Mathlib.Omega.{arith}
 use Rattle.walk.specs.Standing.{At}

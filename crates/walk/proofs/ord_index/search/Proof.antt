@@ -1,3 +1,5 @@
+-- `walk::ord_index::search` meets its contract.
+-- The invariant: the stages still to come lead where the whole walk leads, with the whole walk's tally.
 use Prim.Native.Nat.{suc, _-_}
 use native.Mathlib.Omega.{arith}
 use borrow.Author.Needs.{needs}
@@ -5,10 +7,6 @@ use Rattle.walk.proofs.Looks.{down-to}
 use Rattle.walk.proofs.Answering.{Descending, descending-start, descending-more, beyond-above, search-beyond, search-ended}
 use Rattle.walk.proofs.ord_index.search.Statement.{statement}
 use Rattle.walk.proofs.ord_index.search.Tie as tie
-use Rattle.walk.proofs.ord_index.search.Reads as reads
-use Rattle.walk.proofs.ord_index.search.Lts as lts
-use Rattle.walk.proofs.ord_index.along.Reads as along-reads
-use Rattle.walk.proofs.ord_index.follow.Reads as follow-reads
 
 abbrev Inv-loop : tie.InvT-loop
 Inv-loop w m list key allowance v₀ level₀ v level = Descending w m (list .0) key allowance level (v .slot .0) (v .rank .0) (v .left)
@@ -16,43 +14,33 @@ Inv-loop w m list key allowance v₀ level₀ v level = Descending w m (list .0)
 abbrev μ-loop : tie.MeasureT-loop
 μ-loop w m list key allowance v₀ level₀ v level = level
 
--- src/lib.rt:171:5
 loop-holds : tie.Need-loop-holds Inv-loop μ-loop
 loop-holds c = descending-start _ _ (c .before .pre)
 
--- src/lib.rt:172:17
 sub-l : tie.Need-sub-l Inv-loop μ-loop
 sub-l c = omega arith
 
--- src/lib.rt:173:26
 along-requires : tie.Need-along-requires Inv-loop μ-loop
 along-requires c κs = down-to (c .before .loop .inv .at) (suc (c .before .loop .level - 1)) (omega (arith, c .loop-test .taken))
 
--- src/lib.rt:173:21
 enum-known-u : tie.Need-enum-known-u Inv-loop μ-loop
 enum-known-u c = search needs
 
--- src/lib.rt:174:13
 enum-told : tie.Need-enum-told Inv-loop μ-loop
 enum-told c = search needs
 
--- src/lib.rt:174:13
 returns : tie.Need-returns Inv-loop μ-loop
 returns c = search-beyond _ _ (c .before .before .before .before .before .before .pre) (beyond-above (c .before .before .before .before .loop .inv) (c .before .before .before .before .loop .level - 1) (omega (arith, c .before .before .before .loop-test .taken)) (rw (c .enum-told .given .1) at (c .before .before .along .ensures)))
 
--- src/lib.rt:171:5
 loop-less : tie.Need-loop-less Inv-loop μ-loop
 loop-less c = omega (arith, c .before .before .before .before .loop-test .taken)
 
--- src/lib.rt:171:5
 loop-again : tie.Need-loop-again Inv-loop μ-loop
 loop-again c = descending-more (c .before .before .before .before .before .loop .inv) (c .before .before .before .before .before .loop .level - 1) (omega (arith, c .before .before .before .before .loop-test .taken)) (rw (c .before .u .given .1) at (c .before .before .before .along .ensures))
 
--- src/lib.rt:179:5
 follow-requires : tie.Need-follow-requires Inv-loop μ-loop
 follow-requires c κs = (down-to (c .before .loop .inv .at) 0 (omega arith), c .before .loop .inv .fall)
 
--- src/lib.rt:161:1
 returns-2 : tie.Need-returns-2 Inv-loop μ-loop
 returns-2 c = search-ended {u = c .before .before .loop .v} (c .before .before .before .before .pre) (c .before .before .loop .inv) (c .before .loop-test .left) (c .follow .result) (c .follow .ensures)
 

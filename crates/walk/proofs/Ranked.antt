@@ -1,0 +1,58 @@
+-- The walk by rank in document 01's own terms: what `seek` notes is what the model's walk by rank notes, and it ends where that one ends.
+-- Rests on Looks, Seeking and model's ByRank.
+use Prim.Native.Nat.{ℕ, zero, suc, _+_, _-_, _≤_, _<_}
+use mathlib.Core.Path.{_≡_, refl, sym, ap, _∙_}
+use mathlib.Core.List.{List, [], _∷_}
+use mathlib.Core.Option.{Option, none, some}
+use lib.ListN.{length, take, getD, replicate, getD-replicate}
+use lib.Seq.{take-all, take-length}
+use native.Mathlib.Omega.{arith}
+use Rattle.model.specs.Nodes.{Node, slotAt}
+use Rattle.model.specs.Walks.{rankPrecursors, rankWalk, last}
+use Rattle.model.specs.Cells.{cellAt}
+use Rattle.model.specs.Passes.{decode, nodes}
+use Rattle.model.proofs.ByRank.{rank-precursor, rank-head, rank-head-precursor, rank-there, rank-past}
+use Rattle.arena.specs.Owners.{Listed, Leads}
+use Rattle.arena.specs.declared.Path.{Path}
+use Rattle.arena.specs.declared.Slot.{Slot}
+use Rattle.walk.specs.Ranks.{endOf, ByRank}
+use Rattle.walk.specs.declared.Ended.{Ended}
+use Rattle.walk.specs.declared.Ended.the-variants.{At, None}
+use Rattle.walk.specs.declared.Reached.{Reached}
+use Rattle.walk.proofs.Looks.{standing}
+use Rattle.walk.proofs.Seeking.{steps}
+
+abbrev at-slot : ℕ → Ended
+at-slot s = At (record { 0 = s })
+
+module _ {w : List ℕ} {m a : ℕ} (g : Listed w m a) where
+  pub ranked-head : (t : ℕ) → t ≡ 0 → ByRank w m a t (record { slots = replicate 16 a; ranks = replicate 16 0; ended = at-slot a })
+  ranked-head t e =
+      let few : m ≤ 16 = omega (arith, g .levels, g .passes .sizes .levels-most) in
+      rw e (record {
+        rank = λ l k. getD-replicate 16 l 0 0 (omega arith) ∙ sym (rank-head-precursor m (nodes w a) l k);
+        slot = λ l k. getD-replicate 16 l a 0 (omega arith) ∙ sym (ap (slotAt a (nodes w a)) (getD-replicate 16 l 0 0 (omega arith)));
+        ended = sym (ap (endOf a (nodes w a)) (rank-head m (nodes w a)));
+      })
+
+  module _ (t i : ℕ) (p : Path) (k : Leads w m a i p) where
+    precursors-are : take i (nodes w a) ≡ take (t - 1) (nodes w a) → (x : Ended) → x ≡ endOf a (nodes w a) (rankWalk m t (nodes w a))
+        → ByRank w m a t (record { slots = p .slots; ranks = p .ranks; ended = x })
+    precursors-are e x q = record {
+      rank = λ l j. k .before .rank l j ∙ ap (last (suc l)) e ∙ sym (rank-precursor m t (nodes w a) l j);
+      slot = λ l j. k .before .slot l j;
+      ended = q;
+    }
+
+    pub ranked-past : i ≡ length (nodes w a) → i < t → ByRank w m a t (record { slots = p .slots; ranks = p .ranks; ended = None })
+    ranked-past e l =
+        precursors-are (ap (λ (n : ℕ). take n (nodes w a)) e ∙ take-length (nodes w a) ∙ sym (take-all (t - 1) (nodes w a) (omega arith))) None
+        (sym (ap (endOf a (nodes w a)) (rank-past m t (nodes w a) (omega arith))))
+
+    pub ranked-there : i + 1 ≡ t → t ≤ length (nodes w a) → (to : ℕ) → to ≡ cellAt m w (p .end .0) 2
+        → ByRank w m a t (record { slots = p .slots; ranks = p .ranks; ended = at-slot to })
+    ranked-there e l to f =
+        let o = steps (standing i g (omega arith) (k .end)) (omega arith) to t f (sym e) in
+        let z : i ≡ t - 1 = omega arith in
+        precursors-are (ap (λ (n : ℕ). take n (nodes w a)) z) (at-slot to)
+        (ap at-slot (o .owner .slot-is) ∙ sym (ap (endOf a (nodes w a)) (rank-there m t (nodes w a) l)))
