@@ -10,7 +10,7 @@ use native.Mathlib.Omega.{arith}
 use borrow.Author.Tests.{lt-ltb, le-ltb, le-leb, lt-leb, eq-eqb, ne-eqb}
 use Rattle.model.specs.Arena.{State, encode, listOf}
 use Rattle.model.specs.Passes.{decode, Passes}
-use Rattle.model.specs.Calls.{Call, Answer, answer, refusal, accepted, refused, allowanceOf, performed, answerTo, resultOf, row3, row4}
+use Rattle.model.specs.Calls.{Call, Answer, answer, refusal, accepted, refused, allowanceOf, performed, answerTo, resultOf, row3, row4, row8}
 use Rattle.arena.proofs.Places.{length-encode}
 use Rattle.checked.specs.Kept.{Kept}
 
@@ -46,6 +46,14 @@ module _ {w : List ℕ} (p : Passes w) where
 
   pub one-list : (c : Call) (a later : ℕ) → refusal (decode w) c ≡ row3 (decode w) a later → a < length (decode w .lists) → refusal (decode w) c ≡ later
   one-list c a later e l = e ∙ row3-passes (decode w) a later l
+
+  -- "8: index at or past the length", behind row 3
+  module _ (c : Call) (a i n : ℕ) (e : refusal (decode w) c ≡ row3 (decode w) a (row8 (ltb i n))) (l : a < length (decode w .lists)) where
+    pub past-end : n ≤ i → Kept c w w (answer 8 0 0 0 0)
+    past-end k = refuses c 8 (e ∙ row3-passes (decode w) a _ l ∙ (rw (le-ltb i n k) refl)) (λ z. omega (arith, z)) (λ z. omega (arith, z))
+
+    pub before-end : i < n → refusal (decode w) c ≡ 0
+    before-end k = e ∙ row3-passes (decode w) a _ l ∙ (rw (lt-ltb i n k) refl)
 
   -- two list numbers, and "4: the two lists named are the same"
   module _ (c : Call) (a b later : ℕ) (e : refusal (decode w) c ≡ row3 (decode w) a (row3 (decode w) b (row4 a b later))) (la : a < length (decode w .lists)) where

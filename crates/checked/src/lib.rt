@@ -10,7 +10,6 @@ pub use numbers::refusal_number;
 pub use reading::middle;
 pub use reading::read;
 pub use reading::search;
-
 ghost use mathlib.Core.Path.{_≡_};
 ghost use lib.ListN.{length};
 ghost use Rattle.model.specs.Passes.{decode, Passes};

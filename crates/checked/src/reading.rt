@@ -5,11 +5,11 @@ ghost use Rattle.model.specs.Calls.{search, read, middle};
 ghost use Rattle.walk.specs.Answers.{answerOf};
 ghost use Rattle.checked.specs.Answers.{searchTold, keyTold};
 ghost use Rattle.checked.specs.Kept.{Kept};
-use arena::Index;
-use arena::Slot;
 use super::KeyAnswer;
 use super::Refusal;
 use super::SearchAnswer;
+use arena::Index;
+use arena::Slot;
 use walk::Searched;
 
 // The walk's answer as the call's.

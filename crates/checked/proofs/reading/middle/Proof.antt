@@ -1,0 +1,49 @@
+-- `checked::reading::middle` meets its contract: rows 3 and 8, then the key in the middle.
+use Prim.Native.Nat.{ℕ}
+use mathlib.Core.Path.{refl, ap}
+use native.Mathlib.Omega.{arith}
+use lib.ListN.{length}
+use Rattle.model.specs.Passes.{nodes}
+use Rattle.model.specs.Calls.{answer, middle as asked}
+use Rattle.checked.proofs.Rows.{no-list, past-end, before-end, accepts}
+use borrow.Author.Needs.{needs}
+use Rattle.checked.proofs.reading.middle.Statement.{statement}
+use Rattle.checked.proofs.reading.middle.Tie as tie
+
+lists-requires : tie.Need-lists-requires
+lists-requires c κs = search needs
+
+returns : tie.Need-returns
+returns c = no-list (c .before .before .before .before .pre) _ (c .before .before .before .before .args .list .0) _ refl (omega arith)
+
+levels-requires : tie.Need-levels-requires
+levels-requires c κs = search needs
+
+length-requires : tie.Need-length-requires
+length-requires c κs = search needs
+
+returns-2 : tie.Need-returns-2
+returns-2 c =
+    let a = c .before .before .before .before .before .before .before .args in
+    past-end (c .before .before .before .before .before .before .before .pre) _ (a .list .0) 0 (length (nodes (a .w .now) (a .list .0))) refl (omega arith) (omega arith)
+
+middle-requires : tie.Need-middle-requires
+middle-requires c κs = (search needs, omega (arith, c .if2 .left))
+
+returns-3 : tie.Need-returns-3
+returns-3 c =
+    let a = c .before .before .before .before .before .before .before .before .args in
+    accepts (c .before .before .before .before .before .before .before .before .pre) _ (before-end (c .before .before .before .before .before .before .before .before .pre) (asked (a .list .0)) (a .list .0) 0 (length (nodes (a .w .now) (a .list .0))) refl (omega arith) (omega arith))
+    (ap (λ (k : ℕ). answer 0 0 0 k 0) (c .middle .ensures)) (c .before .before .before .before .before .before .before .before .pre .words)
+
+pub middle-spec : {M : Type 1} → statement M
+middle-spec =
+    tie.close
+    (tie.spec
+    lists-requires
+    returns
+    levels-requires
+    length-requires
+    returns-2
+    middle-requires
+    returns-3)
