@@ -6,13 +6,12 @@ use mathlib.Core.List.{List, [], _∷_, _++_, append-assoc}
 use lib.ListN.{length, take, drop, getD, length-set, take-append-drop}
 use lib.Seq.{getD-set-same, getD-set-other}
 use native.Mathlib.Omega.{arith}
-use Rattle.model.specs.Arena.{State, nodeWords, headWords, freeWords, listOf, recordOf, slots-of}
-use Rattle.model.specs.Calls.{insertIn}
-use Rattle.model.specs.Lists.{insert}
-use Rattle.model.specs.Nodes.{Node, node, smaller}
+use Rattle.model.specs.Arena.{State, nodeWords, headWords, freeWords, listOf, putList, recordOf, slots-of}
+use Rattle.model.specs.Lists.{insertAt}
+use Rattle.model.specs.Nodes.{Node, node, Sorted}
 use Rattle.model.specs.Passes.{Sound, timesFree}
 use Rattle.model.proofs.Hang.{InA, its-head, its-node, Hung}
-use Rattle.model.proofs.Keeps.{sound-insert}
+use Rattle.model.proofs.Keeps.{sound-insert-at}
 use Rattle.model.proofs.Owners.{head, listed, freed, place}
 use Rattle.model.proofs.Records.{head-words, node-words, free-words, slot-of, free-slot, free-mid, times-mid, timesAll-ge}
 use Rattle.model.proofs.Splitting.{in-first, in-second, in-of}
@@ -102,19 +101,20 @@ module _ {Z : State} {ls ms : List (List Node)} {f : ℕ} {fs : List ℕ} {a : �
   pub f-S : recordOf S f ≡ freeWords (Z .levels) fs
   f-S = free-words S (p .sound-S) [] f fs refl
 
--- the insertion of the model, where the free chain is f and fs
-pub insert-like : (S : State) → Sound S → (f : ℕ) (fs : List ℕ) → S .free ≡ f ∷ fs → (a k h : ℕ) → a < length (S .lists) → h ≤ S .levels
-    → InsertLike S (S .lists) (insertIn S a k h (f ∷ fs) .lists) f fs a (take (smaller k (listOf S a)) (listOf S a)) (node f k h) (drop (smaller k (listOf S a)) (listOf S a))
-insert-like S v f fs e a k h la hm =
+-- an insertion in the model, where the free chain is f and fs, at a place where the keys stay in order
+pub insert-like : (S : State) → Sound S → (f : ℕ) (fs : List ℕ) → S .free ≡ f ∷ fs → (a i k h : ℕ) → a < length (S .lists) → h ≤ S .levels
+    → Sorted (insertAt i (node f k h) (listOf S a))
+    → InsertLike S (S .lists) (putList S a (insertAt i (node f k h) (listOf S a)) fs .lists) f fs a (take i (listOf S a)) (node f k h) (drop i (listOf S a))
+insert-like S v f fs e a i k h la hm so =
     let xs = listOf S a in
-    let ys = insert (node f k h) xs in
+    let ys = insertAt i (node f k h) xs in
     record {
       sound-S = subst (λ (t : List ℕ). Sound (withBoth S (S .lists) t)) e v;
-      sound-T = sound-insert S v a la f fs k h e hm;
+      sound-T = sound-insert-at S v a la f fs i k h e hm so;
       lists = sym (length-set (S .lists) a ys);
       list-a = la;
       slot = refl;
-      S-a = sym (take-append-drop (smaller k xs) xs);
+      S-a = sym (take-append-drop i xs);
       T-a = getD-set-same (S .lists) a ys [] la;
       others = λ z na. getD-set-other (S .lists) a z ys [] na;
     }

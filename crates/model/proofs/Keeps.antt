@@ -9,8 +9,8 @@ use native.Mathlib.Nat.{not-suc-le-zero}
 use native.Mathlib.Omega.{arith}
 use Rattle.model.specs.Arena.{State, listOf, putList}
 use Rattle.model.specs.Calls.{insertIn, doRemove, doTruncate, doSplit, doAppend, doLevel}
-use Rattle.model.specs.Lists.{insert, removeAt, freed, append, levelFrom}
-use Rattle.model.specs.Nodes.{Node, node, N, Sorted, Low}
+use Rattle.model.specs.Lists.{insertAt, insert, removeAt, freed, append, levelFrom}
+use Rattle.model.specs.Nodes.{smaller, Node, node, N, Sorted, Low}
 use Rattle.model.specs.Passes.{times, timesAll, timesFree, Each, Sound}
 use Rattle.model.proofs.Levels.{low-levelled, level-levelled}
 use Rattle.model.proofs.Ordering.{times-cut, times-insert, times-self, timesFree-cons, times-freed, low-cut, low-insert, sorted-cut, sorted-remove, sorted-level, times-level}
@@ -75,14 +75,21 @@ sound-put2 S a b xs ys la lb ne v so lo so2 lo2 f =
 
 -- ---- the operations ----
 module _ (S : State) (v : Sound S) (a : ℕ) (la : a < length (S .lists)) where
-  pub sound-insert : (f : ℕ) (fs : List ℕ) (k h : ℕ) → S .free ≡ f ∷ fs → h ≤ S .levels → Sound (insertIn S a k h (f ∷ fs))
-  sound-insert f fs k h e l =
+  -- at any place where the keys stay in order
+  pub sound-insert-at : (f : ℕ) (fs : List ℕ) (i k h : ℕ) → S .free ≡ f ∷ fs → h ≤ S .levels → Sorted (insertAt i (node f k h) (listOf S a))
+      → Sound (putList S a (insertAt i (node f k h) (listOf S a)) fs)
+  sound-insert-at f fs i k h e l so =
       let n = node f k h in
-      sound-put S a (insert n (listOf S a)) fs la v (sorted-insert n (listOf S a) (sorted-list S v a)) (low-insert (S .levels) n (listOf S a) l (low-list S v a))
+      let xs = listOf S a in
+      let c = low-cut (S .levels) i xs (low-list S v a) in
+      sound-put S a (insertAt i n xs) fs la v so (low-append (S .levels) (take i xs) (n ∷ drop i xs) (c .0) (l, c .1))
       (λ s. rw e (elim (same? f s) [
-        | same g q ↦ rw g (omega (arith, rw g at (times-insert s n (listOf S a))))
-        | other g q ↦ rw g (omega (arith, rw g at (times-insert s n (listOf S a))))
+        | same g q ↦ rw g (omega (arith, times-cut s i xs, rw g at (times-append s (take i xs) (n ∷ drop i xs))))
+        | other g q ↦ rw g (omega (arith, times-cut s i xs, rw g at (times-append s (take i xs) (n ∷ drop i xs))))
       ]))
+
+  pub sound-insert : (f : ℕ) (fs : List ℕ) (k h : ℕ) → S .free ≡ f ∷ fs → h ≤ S .levels → Sound (insertIn S a k h (f ∷ fs))
+  sound-insert f fs k h e l = sound-insert-at f fs (smaller k (listOf S a)) k h e l (sorted-insert (node f k h) (listOf S a) (sorted-list S v a))
 
   pub sound-truncate : (n : ℕ) → Sound (doTruncate S a n)
   sound-truncate n =

@@ -29,6 +29,9 @@ pub mod Builds
 pub mod Counting
 pub mod Apart
 pub mod Frame
+pub mod Columns
+pub mod Chained
+pub mod Clauses
 -- which records an operation changes
 pub mod Links
 pub mod Owners

@@ -14,14 +14,14 @@ use Rattle.model.specs.Passes.{chain, freeChain, listsFrom, decode, time
 use Rattle.model.proofs.Tests.{same, other, same?, hit, miss, test}
 
 -- every record has its length
-length-links : (l n ht : ℕ) (ys : List Node) → length (nodeLinks l n ht ys) ≡ 2 * n
+pub length-links : (l n ht : ℕ) (ys : List Node) → length (nodeLinks l n ht ys) ≡ 2 * n
 length-links l zero ht ys = refl
 length-links l (suc n) ht ys = elim (test (suc l) ht) [
   | hit e p ↦ rw e (omega (arith, length-links (suc l) n ht ys))
   | miss e p ↦ rw e (omega (arith, length-links (suc l) n ht ys))
 ]
 
-length-absent : (n : ℕ) → length (absent n) ≡ 2 * n
+pub length-absent : (n : ℕ) → length (absent n) ≡ 2 * n
 length-absent zero = refl
 length-absent (suc n) = omega (arith, length-absent n)
 

@@ -1,0 +1,20 @@
+-- Stores put together: those of one level, and those of the columns 3 to 0.
+use Prim.Native.Nat.{ℕ, _+_, _*_, _-_}
+use mathlib.Core.Path.{_≡_}
+use mathlib.Core.List.{List}
+use Rattle.model.specs.Cells.{cellAt, putAt}
+use Rattle.insert_remove.specs.Changes.{columns}
+use Rattle.insert_remove.specs.Levels.{relink}
+
+module _ (m l s : ℕ) (w : List ℕ) {x : List ℕ} where
+  pub relinked : (o : ℕ) {u : List ℕ} {to far to′ far′ t f t′ f′ : ℕ} → u ≡ putAt m (putAt m w s (4 + 2 * l) to) o (4 + 2 * l) to′
+      → x ≡ putAt m (putAt m u s (5 + 2 * l) far) o (5 + 2 * l) far′ → to ≡ t → far ≡ f → to′ ≡ t′ → far′ ≡ f′ → x ≡ relink m l w s t f o t′ f′
+  relinked o e d p q r z = cc
+
+  -- the distance f was read, and g of it is stored
+  pub one-distance : (g : ℕ → ℕ) {d f : ℕ} → x ≡ putAt m w s (5 + 2 * l) d → d ≡ g f → f ≡ cellAt m w s (5 + 2 * l) → x ≡ putAt m w s (5 + 2 * l) (g (cellAt m w s (5 + 2 * l)))
+  one-distance g e d p = cc
+
+pub in-columns : (m a count last e next o key height after : ℕ) (w : List ℕ) {u v x y : List ℕ} → u ≡ putAt m w a 3 last → v ≡ putAt m (putAt m u e 2 next) o 2 after
+    → x ≡ putAt m v o 1 height → y ≡ putAt m (putAt m x a 0 count) o 0 key → y ≡ columns m w a count last e next o key height after
+in-columns m a count last e next o key height after w p q r s = cc

@@ -1,0 +1,79 @@
+-- `insert_remove::levels::insert_links` meets its contract: after l turns the links of the levels below l are those of the new model.
+use Prim.Native.Nat.{ℕ, _-_, _≤_}
+use mathlib.Core.Path.{_≡_, refl}
+use native.Mathlib.Omega.{arith}
+use lib.ListN.{take}
+use borrow.Author.Needs.{needs}
+use Rattle.model.specs.Passes.{decode}
+use Rattle.arena.specs.Owners.{Before}
+use Rattle.arena.proofs.Relink.{Relinked}
+use Rattle.insert_remove.specs.Changes.{insertedAt, Enters}
+use Rattle.insert_remove.proofs.InsertLinks.{small, insert-start, insert-size, inserted, rank-le, level-is, turn}
+use Rattle.insert_remove.proofs.levels.insert_links.Statement.{statement}
+use Rattle.insert_remove.proofs.levels.insert_links.Tie as tie
+
+abbrev Inv-loop : tie.InvT-loop
+Inv-loop w₀ m key height o slots ranks place h l₀ w l = ((a : ℕ) → Enters w₀ m a place key height → Before w₀ m a place slots ranks → Relinked (decode w₀) (insertedAt (decode w₀) a place key height) (take 8 w₀) m l w) × (l ≤ m)
+
+abbrev μ-loop : tie.MeasureT-loop
+μ-loop w₀ m key height o slots ranks place h l₀ w l = m - l
+
+wide-requires : tie.Need-wide-requires Inv-loop μ-loop
+wide-requires c κs = tt
+
+loop-holds : tie.Need-loop-holds Inv-loop μ-loop
+loop-holds c = ((λ a p q. insert-start p), omega arith)
+
+mul-t18 : tie.Need-mul-t18 Inv-loop μ-loop
+mul-t18 c = omega (arith, small (c .before .before .before .before .before .before .before .pre .0 .0), c .before .loop-test .taken)
+
+array-read-t21 : tie.Need-array-read-t21 Inv-loop μ-loop
+array-read-t21 c = omega (arith, small (c .before .before .before .before .before .before .before .pre .0 .0), c .before .loop-test .taken)
+
+mul-insert-level : tie.Need-mul-insert-level Inv-loop μ-loop
+mul-insert-level c = omega (arith, small (c .before .before .before .before .before .before .before .pre .0 .0), c .before .loop-test .taken)
+
+array-read-insert-level : tie.Need-array-read-insert-level Inv-loop μ-loop
+array-read-insert-level c = omega (arith, small (c .before .before .before .before .before .before .before .pre .0 .0), c .before .loop-test .taken)
+
+sub-insert-level : tie.Need-sub-insert-level Inv-loop μ-loop
+sub-insert-level c = rank-le (c .before .before .before .before .before .before .before .pre .0 .0) (c .before .before .before .before .before .before .before .pre .0 .1 .before) (c .before .before .loop .inv .0 _ (c .before .before .before .before .before .before .before .pre .0 .0) (c .before .before .before .before .before .before .before .pre .0 .1 .before)) (c .before .loop-test .taken)
+
+insert-level-requires : tie.Need-insert-level-requires Inv-loop μ-loop
+insert-level-requires c κs = level-is (c .before .before .before .before .before .before .before .pre .0 .0) (c .before .before .before .before .before .before .before .pre .0 .1 .before) (c .before .before .loop .inv .0 _ (c .before .before .before .before .before .before .before .pre .0 .0) (c .before .before .before .before .before .before .before .pre .0 .1 .before)) (c .before .loop-test .taken) (c .before .before .before .before .before .before .before .pre .1)
+
+add-l : tie.Need-add-l Inv-loop μ-loop
+add-l c = omega (arith, small (c .before .before .before .before .before .before .before .before .before .before .pre .0 .0), c .before .before .before .before .loop-test .taken)
+
+loop-less : tie.Need-loop-less Inv-loop μ-loop
+loop-less c = omega (arith, c .before .before .before .before .loop-test .taken)
+
+loop-again : tie.Need-loop-again Inv-loop μ-loop
+loop-again c =
+    ((λ a p q. turn p q (c .before .before .before .before .before .loop .inv .0 a p q) (c .before .before .before .before .loop-test .taken) (c .before .before .before .before .before .before .before .before .before .before .pre .1) (c .before .before .before .before .before .before .wide .ensures) (c .before .before .insert-level .ensures)), omega (arith, c .before .before .before .before .loop-test .taken))
+
+same-length : tie.Need-same-length Inv-loop μ-loop
+same-length c = insert-size (c .before .before .before .before .before .before .pre .0 .0) (c .before .loop .inv .0 _ (c .before .before .before .before .before .before .pre .0 .0) (c .before .before .before .before .before .before .pre .0 .1 .before))
+
+returns : tie.Need-returns Inv-loop μ-loop
+returns c = inserted (c .before .before .before .before .before .before .pre .0 .0) (c .before .loop .inv .0 _ (c .before .before .before .before .before .before .pre .0 .0) (c .before .before .before .before .before .before .pre .0 .1 .before)) (c .before .loop .inv .1) (c .loop-test .left)
+
+pub insert-links-spec : {M : Type 1} → statement M
+insert-links-spec =
+    tie.close
+    (tie.spec
+    Inv-loop
+    μ-loop
+    wide-requires
+    loop-holds
+    mul-t18
+    array-read-t21
+    mul-insert-level
+    array-read-insert-level
+    sub-insert-level
+    insert-level-requires
+    add-l
+    loop-less
+    loop-again
+    same-length
+    returns)

@@ -1,0 +1,78 @@
+-- `insert_remove::levels::remove_links` meets its contract: after l turns the links of the levels below l are those of the new model.
+use Prim.Native.Nat.{ℕ, _-_, _≤_}
+use mathlib.Core.Path.{_≡_}
+use native.Mathlib.Omega.{arith}
+use lib.ListN.{take}
+use Rattle.model.specs.Calls.{doRemove}
+use Rattle.model.specs.Nodes.{at}
+use Rattle.model.specs.Passes.{decode, nodes}
+use Rattle.arena.specs.Owners.{Before}
+use Rattle.arena.proofs.Relink.{Relinked}
+use Rattle.insert_remove.specs.Changes.{Leaves}
+use Rattle.insert_remove.proofs.RemoveLinks.{small, remove-start, remove-size, removed, rank-le, level-is, turn}
+use Rattle.insert_remove.proofs.levels.remove_links.Statement.{statement}
+use Rattle.insert_remove.proofs.levels.remove_links.Tie as tie
+
+abbrev Inv-loop : tie.InvT-loop
+Inv-loop w₀ m o h slots ranks place l₀ w l =
+    ((a : ℕ) → Leaves w₀ m a place → Before w₀ m a place slots ranks → o .0 ≡ at (nodes w₀ a) place .slot → h ≡ at (nodes w₀ a) place .height
+    → Relinked (decode w₀) (doRemove (decode w₀) a place) (take 8 w₀) m l w) × (l ≤ m)
+
+abbrev μ-loop : tie.MeasureT-loop
+μ-loop w₀ m o h slots ranks place l₀ w l = m - l
+
+loop-holds : tie.Need-loop-holds Inv-loop μ-loop
+loop-holds c = ((λ a p q e d. remove-start p), omega arith)
+
+mul-t16 : tie.Need-mul-t16 Inv-loop μ-loop
+mul-t16 c = omega (arith, small (c .before .before .before .before .before .before .pre .0 .0), c .before .loop-test .taken)
+
+array-read-t19 : tie.Need-array-read-t19 Inv-loop μ-loop
+array-read-t19 c = omega (arith, small (c .before .before .before .before .before .before .pre .0 .0), c .before .loop-test .taken)
+
+mul-remove-level : tie.Need-mul-remove-level Inv-loop μ-loop
+mul-remove-level c = omega (arith, small (c .before .before .before .before .before .before .pre .0 .0), c .before .loop-test .taken)
+
+array-read-remove-level : tie.Need-array-read-remove-level Inv-loop μ-loop
+array-read-remove-level c = omega (arith, small (c .before .before .before .before .before .before .pre .0 .0), c .before .loop-test .taken)
+
+sub-remove-level : tie.Need-sub-remove-level Inv-loop μ-loop
+sub-remove-level c = rank-le (c .before .before .before .before .before .before .pre .0 .0) (c .before .before .before .before .before .before .pre .0 .1 .before) (c .before .before .loop .inv .0 _ (c .before .before .before .before .before .before .pre .0 .0) (c .before .before .before .before .before .before .pre .0 .1 .before) (c .before .before .before .before .before .before .pre .1 .0) (c .before .before .before .before .before .before .pre .1 .1)) (c .before .loop-test .taken)
+
+remove-level-requires : tie.Need-remove-level-requires Inv-loop μ-loop
+remove-level-requires c κs = level-is (c .before .before .before .before .before .before .pre .0 .0) (c .before .before .before .before .before .before .pre .0 .1 .before) (c .before .before .loop .inv .0 _ (c .before .before .before .before .before .before .pre .0 .0) (c .before .before .before .before .before .before .pre .0 .1 .before) (c .before .before .before .before .before .before .pre .1 .0) (c .before .before .before .before .before .before .pre .1 .1)) (c .before .loop-test .taken) (c .before .before .before .before .before .before .pre .1 .0)
+
+add-l : tie.Need-add-l Inv-loop μ-loop
+add-l c = omega (arith, small (c .before .before .before .before .before .before .before .before .before .pre .0 .0), c .before .before .before .before .loop-test .taken)
+
+loop-less : tie.Need-loop-less Inv-loop μ-loop
+loop-less c = omega (arith, c .before .before .before .before .loop-test .taken)
+
+loop-again : tie.Need-loop-again Inv-loop μ-loop
+loop-again c =
+    ((λ a p q e d. turn p q (c .before .before .before .before .before .loop .inv .0 a p q e d) (c .before .before .before .before .loop-test .taken) e d (c .before .before .remove-level .ensures)), omega (arith, c .before .before .before .before .loop-test .taken))
+
+same-length : tie.Need-same-length Inv-loop μ-loop
+same-length c = remove-size (c .before .before .before .before .before .pre .0 .0) (c .before .loop .inv .0 _ (c .before .before .before .before .before .pre .0 .0) (c .before .before .before .before .before .pre .0 .1 .before) (c .before .before .before .before .before .pre .1 .0) (c .before .before .before .before .before .pre .1 .1))
+
+returns : tie.Need-returns Inv-loop μ-loop
+returns c = removed (c .before .before .before .before .before .pre .0 .0) (c .before .loop .inv .0 _ (c .before .before .before .before .before .pre .0 .0) (c .before .before .before .before .before .pre .0 .1 .before) (c .before .before .before .before .before .pre .1 .0) (c .before .before .before .before .before .pre .1 .1)) (c .before .loop .inv .1) (c .loop-test .left)
+
+pub remove-links-spec : {M : Type 1} → statement M
+remove-links-spec =
+    tie.close
+    (tie.spec
+    Inv-loop
+    μ-loop
+    loop-holds
+    mul-t16
+    array-read-t19
+    mul-remove-level
+    array-read-remove-level
+    sub-remove-level
+    remove-level-requires
+    add-l
+    loop-less
+    loop-again
+    same-length
+    returns)

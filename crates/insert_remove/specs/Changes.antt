@@ -1,0 +1,45 @@
+-- An insertion or a removal at an index: what it asks of words, the model that it leaves, and the words once the links are done.
+-- Rests on model's specs and on arena's Listed and Mix.
+use Prim.Native.Nat.{ℕ, _+_, _*_, _≤_, _<_}
+use mathlib.Core.Path.{_≡_}
+use mathlib.Core.List.{List}
+use lib.ListN.{length, take, drop}
+use Rattle.model.specs.Nodes.{node, Sorted}
+use Rattle.model.specs.Lists.{insertAt}
+use Rattle.model.specs.Arena.{State, firstFree, listOf, putList, recordOf, slots-of}
+use Rattle.model.specs.Cells.{putAt}
+use Rattle.model.specs.Passes.{decode, nodes}
+use Rattle.arena.specs.Mixed.{Mix}
+use Rattle.arena.specs.Owners.{Listed}
+
+-- Key k at height h stands before index i of list a, in the first free slot.
+abbrev pub insertedAt : State → ℕ → ℕ → ℕ → ℕ → State
+insertedAt S a i k h = putList S a (insertAt i (node (firstFree (S .free)) k h) (listOf S a)) (drop 1 (S .free))
+
+-- Key k at height h can go into list a before index i: the keys stay in order.
+pub record Enters (w : List ℕ) (m a i k h : ℕ) : Type 0 where
+  pub listed : Listed w m a
+  pub height : h ≤ m
+  pub room : 0 < length (decode w .free)
+  pub within : i ≤ length (nodes w a)
+  pub sorted : Sorted (insertAt i (node (firstFree (decode w .free)) k h) (nodes w a))
+
+-- The node at index i of list a can go.
+pub record Leaves (w : List ℕ) (m a i : ℕ) : Type 0 where
+  pub listed : Listed w m a
+  pub index : i < length (nodes w a)
+
+-- The record of slot s lies in the slice.
+pub record Lies (w : List ℕ) (m s : ℕ) : Type 0 where
+  pub small : m ≤ 16
+  pub inside : 8 + s * (4 + 2 * m) + (4 + 2 * m) ≤ length w
+
+-- The header and columns 0 to 3 are as before, the links as in the model T.
+pub record Rehung (before : List ℕ) (T : State) (m : ℕ) (after : List ℕ) : Type 0 where
+  pub front : take 8 after ≡ take 8 before
+  pub mixed : Mix m (slots-of (decode before)) (recordOf T) (recordOf (decode before)) 4 (4 + 2 * m) after
+
+-- The words of columns 3 to 0 that change: of the head a, of slot e just before the node, and of the node's slot o.
+abbrev pub columns : ℕ → List ℕ → ℕ → ℕ → ℕ → ℕ → ℕ → ℕ → ℕ → ℕ → ℕ → List ℕ
+columns m w a count last e next o key height after =
+    putAt m (putAt m (putAt m (putAt m (putAt m (putAt m w a 3 last) e 2 next) o 2 after) o 1 height) a 0 count) o 0 key

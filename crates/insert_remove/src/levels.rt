@@ -1,0 +1,144 @@
+// The links that change where a node goes in or out: level by level, by a path of precursors.
+use arena::Index;
+use arena::Path;
+use arena::Slot;
+use arena::cell;
+use arena::put;
+use arena::put2;
+use arena::wide;
+use link::Distance;
+ghost use mathlib.Core.Path.{_≡_};
+ghost use mathlib.Core.Bool.{cond};
+ghost use Prim.Native.Nat.{suc, _+_, _-_, _<_};
+ghost use lib.Dec.{eqb};
+ghost use Rattle.model.specs.Nodes.{slotAt, heightAt};
+ghost use Rattle.model.specs.Links.{further};
+ghost use Rattle.model.specs.Arena.{firstFree};
+ghost use Rattle.model.specs.Calls.{doRemove};
+ghost use Rattle.model.specs.Passes.{decode, nodes};
+ghost use Rattle.arena.specs.Owners.{Leads};
+ghost use Rattle.insert_remove.specs.Changes.{insertedAt, Enters, Leaves, Rehung};
+ghost use Rattle.insert_remove.specs.Levels.{Level, LevelIn, LevelOut};
+
+// A distance as module 1 makes it; what it refuses, 0, is an absent link's.
+fn made(d: u32) -> u32
+    ensures { λ r. ⌜ r ≡ d ⌝ }
+{
+    let Distance::Is(x) = link::make(d) else {
+        return 0;
+    };
+    x
+}
+
+// A link that spans a node that comes; an absent one stays absent.
+fn longer(far: u32) -> u32
+    requires { ⌜ far < 4294967295 ⌝ }
+    ensures { λ r. ⌜ r ≡ further far ⌝ }
+{
+    let Distance::Is(x) = link::raise(far) else {
+        return 0;
+    };
+    x
+}
+
+// A link that spans a node that goes.
+fn shorter(far: u32) -> u32
+    ensures { λ r. ⌜ r ≡ far - 1 ⌝ }
+{
+    let Distance::Is(x) = link::lower(far) else {
+        return 0;
+    };
+    x
+}
+
+// The distance of a link whose owner is `by` ranks further on.
+fn nearer(far: u32, by: u32) -> u32
+    ensures { λ r. ⌜ r ≡ far - by ⌝ }
+{
+    if far <= by {
+        return 0;
+    }
+    made(far - by)
+}
+
+// The distance of a link whose owner is `by` ranks further back.
+fn farther(far: u32, by: u32) -> u32
+    requires { ⌜ far + by < 4294967296 ⌝ }
+    ensures { λ r. ⌜ r ≡ cond (eqb far 0) 0 (far + by) ⌝ }
+{
+    if far == 0 {
+        return 0;
+    }
+    made(far + by)
+}
+
+// Level l, where a node of height h goes in `back` ranks behind the precursor s.
+fn insert_level(w: &mut [u32], m: usize, l: usize, h: usize, s: Slot, o: Slot, back: u32)
+    requires { ⌜ Level (now w) m l (s .0) (o .0) back ⌝ }
+    ensures { λ _. ⌜ LevelIn m l h (s .0) (o .0) back (now (w .entry)) (now (w .exit)) ⌝ }
+{
+    let far = cell(w, m, s, 5 + 2 * l);
+    if h <= l {
+        put(w, m, s, 5 + 2 * l, longer(far));
+        return;
+    }
+    let to = cell(w, m, s, 4 + 2 * l);
+    put2(w, m, 4 + 2 * l, s, o.0, o, to);
+    put2(w, m, 5 + 2 * l, s, made(back + 1), o, nearer(far, back));
+}
+
+// Level l, where a node of height h goes out.
+fn remove_level(w: &mut [u32], m: usize, l: usize, h: usize, s: Slot, o: Slot, back: u32)
+    requires { ⌜ Level (now w) m l (s .0) (o .0) back ⌝ }
+    ensures { λ _. ⌜ LevelOut m l h (s .0) (o .0) back (now (w .entry)) (now (w .exit)) ⌝ }
+{
+    if h <= l {
+        let span = cell(w, m, s, 5 + 2 * l);
+        put(w, m, s, 5 + 2 * l, shorter(span));
+        return;
+    }
+    let to = cell(w, m, o, 4 + 2 * l);
+    let far = cell(w, m, o, 5 + 2 * l);
+    put2(w, m, 4 + 2 * l, s, to, o, Slot::NONE.0);
+    put2(w, m, 5 + 2 * l, s, farther(far, back), o, 0);
+}
+
+pub fn insert_links(
+    w: &mut [u32],
+    m: usize,
+    list: Slot,
+    key: u32,
+    height: u32,
+    i: Index,
+    o: Slot,
+    path: Path,
+)
+    requires { ⌜ Enters (now w) m (list .0) (i .0) key height × Leads (now w) m (list .0) (i .0) path ⌝ }
+    requires { ⌜ o .0 ≡ firstFree (decode (now w) .free) ⌝ }
+    ensures { λ _. ⌜ Rehung (now (w .entry)) (insertedAt (decode (now (w .entry))) (list .0) (i .0) key height) m (now (w .exit)) ⌝ }
+{
+    let slots = path.slots;
+    let ranks = path.ranks;
+    let place = i.0;
+    let h = wide(height);
+    let mut l = 0;
+    while l < m {
+        insert_level(w, m, l, h, Slot(slots[l]), o, place - ranks[l]);
+        l += 1;
+    }
+}
+
+pub fn remove_links(w: &mut [u32], m: usize, list: Slot, i: Index, o: Slot, h: usize, path: Path)
+    requires { ⌜ Leaves (now w) m (list .0) (i .0) × Leads (now w) m (list .0) (i .0) path ⌝ }
+    requires { ⌜ (o .0 ≡ slotAt (list .0) (nodes (now w) (list .0)) (suc (i .0))) × (h ≡ heightAt m (nodes (now w) (list .0)) (suc (i .0))) ⌝ }
+    ensures { λ _. ⌜ Rehung (now (w .entry)) (doRemove (decode (now (w .entry))) (list .0) (i .0)) m (now (w .exit)) ⌝ }
+{
+    let slots = path.slots;
+    let ranks = path.ranks;
+    let place = i.0;
+    let mut l = 0;
+    while l < m {
+        remove_level(w, m, l, h, Slot(slots[l]), o, place - ranks[l]);
+        l += 1;
+    }
+}

@@ -1,0 +1,105 @@
+-- Any words by slot and column: records from their columns, and the chains and lists that the words hold, step by step.
+-- Rests on specs/Cells and specs/Passes.
+use Prim.Native.Nat.{ℕ, zero, suc, _+_, _*_, _≤_, _<_}
+use mathlib.Core.Path.{_≡_, refl, sym, ap, _∙_, subst}
+use mathlib.Core.List.{List, [], _∷_, _++_}
+use lib.ListN.{length, take, drop, getD, length-drop, length-append}
+use lib.Seq.{getD-take, getD-drop, ext-getD, length-take-le, drop-cons}
+use native.Mathlib.Nat.{mul-le-mul-right, add-zero}
+use native.Mathlib.Omega.{arith}
+use Rattle.model.specs.Arena.{State, firstSlot, firstFree, recordOf, records, encode}
+use Rattle.model.specs.Cells.{recordAt, cellAt}
+use Rattle.model.specs.Nodes.{Node, node, N}
+use Rattle.model.specs.Passes.{chain, freeChain, listsFrom, decode, nodes}
+use Rattle.model.proofs.Records.{length-record}
+
+pub cell-record : (M : ℕ) (w : List ℕ) (s c : ℕ) → c < 4 + 2 * M → cellAt M w s c ≡ getD (recordAt M w s) c 0
+unfolding cellAt
+cell-record M w s c l = sym (getD-take (4 + 2 * M) (drop (8 + s * (4 + 2 * M)) w) c 0 l ∙ getD-drop (8 + s * (4 + 2 * M)) w c 0)
+
+-- ---- a record from its columns ----
+data Half (k : ℕ) : Type 0 where
+  even : (l : ℕ) → k ≡ 2 * l → Half k
+  odd : (l : ℕ) → k ≡ suc (2 * l) → Half k
+
+half : (k : ℕ) → Half k
+half zero = even 0 refl
+half (suc k) = elim (half k) [ even l e ↦ odd l (omega arith) | odd l e ↦ even (suc l) (omega arith) ]
+
+pub columns : (P : ℕ → Type 0) (M : ℕ) → P 0 → P 1 → P 2 → P 3 → ((l : ℕ) → l < M → P (4 + 2 * l) × P (5 + 2 * l)) → (c : ℕ) → c < 4 + 2 * M → P c
+columns P M p q r t h zero l = p
+columns P M p q r t h (suc zero) l = q
+columns P M p q r t h (suc (suc zero)) l = r
+columns P M p q r t h (suc (suc (suc zero))) l = t
+columns P M p q r t h (suc (suc (suc (suc k)))) l = elim (half k) [
+  | even i e ↦ subst P (omega arith) (h i (omega arith) .0)
+  | odd i e ↦ subst P (omega arith) (h i (omega arith) .1)
+]
+
+-- a record that lies in the words is R, where each of its columns is
+pub record-is : (M n : ℕ) (w : List ℕ) (s : ℕ) (R : List ℕ) → length w ≡ 8 + n * (4 + 2 * M) → s < n → length R ≡ 4 + 2 * M
+    → ((c : ℕ) → c < 4 + 2 * M → cellAt M w s c ≡ getD R c 0) → recordAt M w s ≡ R
+record-is M n w s R size l len h =
+    let W = 4 + 2 * M in
+    let full = length-take-le W (drop (8 + s * W) w) (omega (arith, length-drop (8 + s * W) w, size, mul-le-mul-right W l)) in
+    ext-getD 0 (recordAt M w s) R (full ∙ sym len) (λ c k. let j : c < W = omega (arith, k, full) in sym (cell-record M w s c j) ∙ h c j)
+
+-- ---- the header ----
+abbrev firsts : List ℕ → ℕ → ℕ → List ℕ
+firsts w i zero = []
+firsts w i (suc n) = getD w i 0 ∷ firsts w (suc i) n
+
+first-words : (w : List ℕ) (i n : ℕ) → i + n ≤ length w → take n (drop i w) ≡ firsts w i n
+first-words w i zero l = refl
+first-words w i (suc n) l = rw (drop-cons w i 0 (omega arith)) (ap (λ (t : List ℕ). getD w i 0 ∷ t) (first-words w (suc i) n (omega arith)))
+
+pub front-words : (w : List ℕ) → 8 ≤ length w
+    → take 8 w ≡ getD w 0 0 ∷ getD w 1 0 ∷ getD w 2 0 ∷ getD w 3 0 ∷ getD w 4 0 ∷ getD w 5 0 ∷ getD w 6 0 ∷ getD w 7 0 ∷ []
+front-words w l = first-words w 0 8 l
+
+-- ---- chains, step by step ----
+pub chain-step : (M : ℕ) (w : List ℕ) (n s : ℕ) → chain M w (suc n) s ≡ node s (cellAt M w s 0) (cellAt M w s 1) ∷ chain M w n (cellAt M w s 2)
+chain-step M w n s = rw (cell-record M w s 0 (omega arith), cell-record M w s 1 (omega arith), cell-record M w s 2 (omega arith)) refl
+
+pub free-step : (M : ℕ) (w : List ℕ) (n s : ℕ) → freeChain M w (suc n) s ≡ s ∷ freeChain M w n (cellAt M w s 2)
+free-step M w n s = rw (cell-record M w s 2 (omega arith)) refl
+
+pub length-chain : (M : ℕ) (w : List ℕ) (n s : ℕ) → length (chain M w n s) ≡ n
+length-chain M w zero s = refl
+length-chain M w (suc n) s = ap suc (length-chain M w n (getD (recordAt M w s) 2 0))
+
+pub length-free : (M : ℕ) (w : List ℕ) (n s : ℕ) → length (freeChain M w n s) ≡ n
+length-free M w zero s = refl
+length-free M w (suc n) s = ap suc (length-free M w n (getD (recordAt M w s) 2 0))
+
+pub first-chain : (M : ℕ) (w : List ℕ) (n s : ℕ) → (n ≡ 0 → s ≡ N) → firstSlot (chain M w n s) ≡ s
+first-chain M w zero s h = sym (h refl)
+first-chain M w (suc n) s h = refl
+
+pub first-free : (M : ℕ) (w : List ℕ) (n s : ℕ) → (n ≡ 0 → s ≡ N) → firstFree (freeChain M w n s) ≡ s
+first-free M w zero s h = sym (h refl)
+first-free M w (suc n) s h = refl
+
+-- ---- the lists ----
+pub length-lists : (M : ℕ) (w : List ℕ) (a n : ℕ) → length (listsFrom M w a n) ≡ n
+length-lists M w a zero = refl
+length-lists M w a (suc n) = ap suc (length-lists M w (suc a) n)
+
+lists-at : (M : ℕ) (w : List ℕ) (a n j : ℕ) → j < n → getD (listsFrom M w a n) j [] ≡ chain M w (cellAt M w (a + j) 0) (cellAt M w (a + j) 2)
+lists-at M w a zero j l = absurd (omega arith)
+lists-at M w a (suc n) zero l = rw (add-zero a, cell-record M w a 0 (omega arith), cell-record M w a 2 (omega arith)) refl
+lists-at M w a (suc n) (suc j) l = let e : a + suc j ≡ suc a + j = omega arith in rw e (lists-at M w (suc a) n j (omega arith))
+
+pub nodes-are : (w : List ℕ) (a : ℕ) → a < getD w 2 0 → nodes w a ≡ chain (getD w 3 0) w (cellAt (getD w 3 0) w a 0) (cellAt (getD w 3 0) w a 2)
+nodes-are w a l = lists-at (getD w 3 0) w 0 (getD w 2 0) a l ∙ (let e : 0 + a ≡ a = omega arith in rw e refl)
+
+pub lists-are : (w : List ℕ) → length (decode w .lists) ≡ getD w 2 0
+lists-are w = length-lists (getD w 3 0) w 0 (getD w 2 0)
+
+-- ---- the length of a model's words ----
+length-records : (W : ℕ) (f : ℕ → List ℕ) → ((s : ℕ) → length (f s) ≡ W) → (s n : ℕ) → length (records f s n) ≡ n * W
+length-records W f l s zero = omega arith
+length-records W f l s (suc n) = length-append (f s) (records f (suc s) n) ∙ omega (arith, l s, length-records W f l (suc s) n)
+
+pub length-encode : (S : State) → length (encode S) ≡ 8 + (length (S .lists) + S .room) * (4 + 2 * S .levels)
+length-encode S = omega (arith, length-records (4 + 2 * S .levels) (recordOf S) (length-record S) 0 (length (S .lists) + S .room))
