@@ -1,7 +1,11 @@
 // Every call on an arena that has passed the check: the later refusals in document 01's order, then one core function.
+mod changing;
 mod numbers;
 mod reading;
 
+pub use changing::insert;
+pub use changing::remove_at;
+pub use changing::remove_key;
 pub use numbers::Numbers;
 pub use numbers::of_key;
 pub use numbers::of_plain;

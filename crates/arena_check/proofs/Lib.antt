@@ -1,0 +1,14 @@
+pub mod Answers
+pub mod Sizes
+pub mod Levels
+pub mod Free
+pub mod Walking
+pub mod Lasts
+pub mod Wholes
+pub mod Dues
+pub mod Formed
+pub mod Listing
+pub mod Freeing
+pub mod Slots
+pub mod Once
+pub mod Passing

@@ -1,0 +1,50 @@
+-- `arena_check::heads::lists_ok` meets its contract. The loop's invariant: the lists passed are right.
+use Prim.Native.Nat.{_-_}
+use native.Mathlib.Omega.{arith}
+use borrow.Author.Needs.{needs}
+use Rattle.arena_check.specs.Walked.{ListOk}
+use Rattle.arena_check.proofs.Levels.{Upto, upto-none, below-next, below-no, below-all}
+use Rattle.arena_check.proofs.Lasts.{length-bound}
+use Rattle.arena_check.proofs.heads.lists_ok.Statement.{statement}
+use Rattle.arena_check.proofs.heads.lists_ok.Tie as tie
+
+abbrev Inv-loop : tie.InvT-loop
+Inv-loop w d a₀ a = Upto 0 (d .lists) a (ListOk w d)
+
+abbrev μ-loop : tie.MeasureT-loop
+μ-loop w d a₀ a = d .lists - a
+
+loop-holds : tie.Need-loop-holds Inv-loop μ-loop
+loop-holds c = upto-none _ _ _ (omega arith)
+
+list-ok-requires : tie.Need-list-ok-requires Inv-loop μ-loop
+list-ok-requires c κs = (search needs, (search needs, length-bound _ _ _ (c .before .before .before .before .pre .1) (c .if1 .taken)))
+
+add-a : tie.Need-add-a Inv-loop μ-loop
+add-a c = search needs
+
+loop-less : tie.Need-loop-less Inv-loop μ-loop
+loop-less c = search needs
+
+loop-again : tie.Need-loop-again Inv-loop μ-loop
+loop-again c = below-next _ _ _ _ (c .before .before .before .before .loop .inv) (c .before .before .if1 .taken) (c .before .list-ok .ensures) (c .if2 .taken)
+
+returns : tie.Need-returns Inv-loop μ-loop
+returns c = below-no _ _ _ _ (c .before .before .if1 .taken) (c .before .list-ok .ensures) (c .if2 .left)
+
+returns-2 : tie.Need-returns-2 Inv-loop μ-loop
+returns-2 c = below-all _ _ _ (c .before .before .loop .inv) (c .if1 .left)
+
+pub lists-ok-spec : {M : Type 1} → statement M
+lists-ok-spec =
+    tie.close
+    (tie.spec
+    Inv-loop
+    μ-loop
+    loop-holds
+    list-ok-requires
+    add-a
+    loop-less
+    loop-again
+    returns
+    returns-2)

@@ -1,0 +1,183 @@
+// One walk along a list: its nodes by next, and at each level the pending link, which the next node of that level must close.
+ghost use mathlib.Core.Path.{_≡_};
+ghost use Prim.Native.Nat.{_+_, _*_, _≤_, _<_};
+ghost use lib.ListN.{length, getD};
+ghost use Rattle.model.specs.Cells.{cellAt};
+ghost use Rattle.arena_check.specs.Answers.{Says};
+ghost use Rattle.arena_check.specs.Sizes.{Shape};
+ghost use Rattle.arena_check.specs.Walked.{Spans, Closes, Loose, Owners, NodeOk, WalkOk, ListOk, Taken};
+use super::Dims;
+use super::NONE;
+use super::absent_from;
+use super::within;
+use super::word;
+use arena::Rank;
+use arena::Slot;
+
+// Of each level the last owner met: its slot and its rank. Its link at that level is pending.
+pub struct Pending {
+    pub slots: [u32; 16],
+    pub ranks: [u32; 16],
+}
+
+// Whether a link of distance d goes from one rank to another. The sum of two words may pass 32 bits.
+fn spans(from: Rank, d: u32, to: Rank) -> bool
+    ensures { λ r. ⌜ Says r (Spans (from .0) d (to .0)) ⌝ }
+{
+    let reached = (from.0 as u64) + (d as u64);
+    let wanted = to.0 as u64;
+    if reached != wanted {
+        return false;
+    }
+    true
+}
+
+// Whether at each level below h the pending link goes to slot s, which has rank r.
+fn closes(w: &[u32], d: Dims, p: Pending, h: usize, s: Slot, r: Rank) -> bool
+    requires { ⌜ Shape (now w) d ⌝ }
+    requires { ⌜ Owners d (p .slots) ⌝ }
+    requires { ⌜ h ≤ d .levels ⌝ }
+    ensures { λ y. ⌜ Says y (Closes (d .levels) (now (w .entry)) h (p .slots) (p .ranks) (s .0) (r .0)) ⌝ }
+{
+    let slots = p.slots;
+    let ranks = p.ranks;
+    let slot = s.0;
+    let rank = r.0;
+    let mut l: usize = 0;
+    while l < h {
+        let owner = slots[l];
+        let to = word(w, d, Slot(owner), 4 + 2 * l);
+        let far = word(w, d, Slot(owner), 5 + 2 * l);
+        let from = ranks[l];
+        if to != slot {
+            return false;
+        }
+        if spans(Rank(from), far, Rank(rank)) {
+            l += 1;
+        } else {
+            return false;
+        }
+    }
+    true
+}
+
+// The node in slot s, which has rank r, becomes the owner of the levels below h.
+fn taken(p: Pending, h: usize, s: Slot, r: Rank) -> Pending
+    requires { ⌜ h ≤ 16 ⌝ }
+    ensures { λ q. ⌜ Taken h (s .0) (r .0) p q ⌝ }
+{
+    let mut slots = p.slots;
+    let mut ranks = p.ranks;
+    let slot = s.0;
+    let rank = r.0;
+    let mut l: usize = 0;
+    while l < h {
+        slots[l] = slot;
+        ranks[l] = rank;
+        l += 1;
+    }
+    Pending { slots, ranks }
+}
+
+// Whether every pending link is absent.
+fn loose(w: &[u32], d: Dims, p: Pending) -> bool
+    requires { ⌜ Shape (now w) d ⌝ }
+    requires { ⌜ Owners d (p .slots) ⌝ }
+    ensures { λ y. ⌜ Says y (Loose (d .levels) (now (w .entry)) (p .slots)) ⌝ }
+{
+    let slots = p.slots;
+    let mut l: usize = 0;
+    while l < d.levels {
+        let owner = slots[l];
+        let to = word(w, d, Slot(owner), 4 + 2 * l);
+        let far = word(w, d, Slot(owner), 5 + 2 * l);
+        if to != NONE {
+            return false;
+        }
+        if far != 0 {
+            return false;
+        }
+        l += 1;
+    }
+    true
+}
+
+// Whether slot s has the form of a node of rank r, after a key k, and closes what is pending below its height.
+fn node_ok(w: &[u32], d: Dims, s: Slot, k: u32, r: Rank, p: Pending) -> bool
+    requires { ⌜ Shape (now w) d ⌝ }
+    requires { ⌜ Owners d (p .slots) ⌝ }
+    ensures { λ y. ⌜ Says y (NodeOk (now (w .entry)) d (s .0) k (r .0) (p .slots) (p .ranks)) ⌝ }
+{
+    if within(d, s) {} else {
+        return false;
+    }
+    let h = arena::wide(word(w, d, s, 1));
+    if word(w, d, s, 0) < k {
+        return false;
+    }
+    if h > d.levels {
+        return false;
+    }
+    if word(w, d, s, 3) != 0 {
+        return false;
+    }
+    if closes(w, d, p, h, s, r) {
+        absent_from(w, d, s, h)
+    } else {
+        false
+    }
+}
+
+// Whether the walk along the list of head a finds it right.
+fn walk_ok(w: &[u32], d: Dims, a: Slot) -> bool
+    requires { ⌜ Shape (now w) d ⌝ }
+    requires { ⌜ a .0 < d .lists ⌝ }
+    requires { ⌜ cellAt (d .levels) (now w) (a .0) 0 ≤ d .room ⌝ }
+    ensures { λ y. ⌜ Says y (WalkOk (now (w .entry)) d (a .0)) ⌝ }
+{
+    let head = a.0;
+    let named = word(w, d, Slot(head), 3);
+    let mut left = word(w, d, Slot(head), 0);
+    let mut at = word(w, d, Slot(head), 2);
+    let mut key: u32 = 0;
+    let mut last = NONE;
+    let mut rank: u32 = 0;
+    let mut p = Pending {
+        slots: [head; 16],
+        ranks: [0; 16],
+    };
+    while 0 < left {
+        rank += 1;
+        left -= 1;
+        if node_ok(w, d, Slot(at), key, Rank(rank), p) {
+            let h = arena::wide(word(w, d, Slot(at), 1));
+            p = taken(p, h, Slot(at), Rank(rank));
+            key = word(w, d, Slot(at), 0);
+            last = at;
+            at = word(w, d, Slot(at), 2);
+        } else {
+            return false;
+        }
+    }
+    if at != NONE {
+        return false;
+    }
+    if last != named {
+        return false;
+    }
+    loose(w, d, p)
+}
+
+// Whether the list of head a is right.
+pub fn list_ok(w: &[u32], d: Dims, a: Slot) -> bool
+    requires { ⌜ Shape (now w) d ⌝ }
+    requires { ⌜ a .0 < d .lists ⌝ }
+    requires { ⌜ cellAt (d .levels) (now w) (a .0) 0 ≤ d .room ⌝ }
+    ensures { λ y. ⌜ Says y (ListOk (now (w .entry)) d (a .0)) ⌝ }
+{
+    let h = arena::wide(word(w, d, a, 1));
+    if h != d.levels {
+        return false;
+    }
+    walk_ok(w, d, a)
+}
