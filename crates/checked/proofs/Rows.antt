@@ -10,7 +10,7 @@ use native.Mathlib.Omega.{arith}
 use borrow.Author.Tests.{lt-ltb, le-ltb, le-leb, lt-leb, eq-eqb, ne-eqb}
 use Rattle.model.specs.Arena.{State, encode, listOf}
 use Rattle.model.specs.Passes.{decode, Passes}
-use Rattle.model.specs.Calls.{Call, Answer, answer, refusal, accepted, refused, allowanceOf, performed, answerTo, resultOf, row3, row4, row8}
+use Rattle.model.specs.Calls.{Call, insertKey, Answer, answer, refusal, accepted, refused, allowanceOf, performed, answerTo, resultOf, row3, row4, row8}
 use Rattle.arena.proofs.Places.{length-encode}
 use Rattle.checked.specs.Kept.{Kept}
 
@@ -46,6 +46,19 @@ module _ {w : List ℕ} (p : Passes w) where
 
   pub one-list : (c : Call) (a later : ℕ) → refusal (decode w) c ≡ row3 (decode w) a later → a < length (decode w .lists) → refusal (decode w) c ≡ later
   one-list c a later e l = e ∙ row3-passes (decode w) a later l
+
+  -- "5: the height is above M"; "6: insert: no free slot"
+  module _ (a k h : ℕ) (l : a < length (decode w .lists)) where
+    pub too-high : decode w .levels < h → Kept (insertKey a k h) w w (answer 5 0 0 0 0)
+    too-high q =
+        refuses (insertKey a k h) 5 (row3-passes (decode w) a _ l ∙ (rw (lt-leb h (decode w .levels) q) refl)) (λ z. omega (arith, z)) (λ z. omega (arith, z))
+
+    pub full : h ≤ decode w .levels → length (decode w .free) ≡ 0 → Kept (insertKey a k h) w w (answer 6 0 0 0 0)
+    full q n =
+        refuses (insertKey a k h) 6 (row3-passes (decode w) a _ l ∙ (rw (le-leb h (decode w .levels) q, n) refl)) (λ z. omega (arith, z)) (λ z. omega (arith, z))
+
+    pub has-room : h ≤ decode w .levels → 0 < length (decode w .free) → refusal (decode w) (insertKey a k h) ≡ 0
+    has-room q n = row3-passes (decode w) a _ l ∙ (rw (le-leb h (decode w .levels) q, lt-ltb 0 (length (decode w .free)) n) refl)
 
   -- "8: index at or past the length", behind row 3
   module _ (c : Call) (a i n : ℕ) (e : refusal (decode w) c ≡ row3 (decode w) a (row8 (ltb i n))) (l : a < length (decode w .lists)) where

@@ -3,11 +3,11 @@ ghost use Rattle.model.specs.Passes.{Passes};
 ghost use Rattle.model.specs.Calls.{insertKey, removeKey, removeIndex};
 ghost use Rattle.checked.specs.Answers.{keyTold, plainTold};
 ghost use Rattle.checked.specs.Kept.{Kept};
-use arena::Index;
-use arena::Slot;
 use super::KeyAnswer;
 use super::PlainAnswer;
 use super::Refusal;
+use arena::Index;
+use arena::Slot;
 use insert_remove::Removed;
 
 pub fn insert(w: &mut [u32], list: Slot, key: u32, height: u32) -> PlainAnswer

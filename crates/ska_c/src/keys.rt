@@ -1,8 +1,8 @@
 // The calls that answer more than a number.
 ghost use Rattle.model.specs.Calls.{search, read, middle, removeKey, removeIndex, answer, Promise};
+use super::answers;
 use arena::Index;
 use arena::Slot;
-use super::answers;
 
 #[no_mangle]
 pub extern "C" fn ska_search(
