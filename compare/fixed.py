@@ -180,12 +180,15 @@ def lines(_seed, _calls):
     s.arena(1, 1, 2)
     for line in ("bad", "Check", "check 1", "read 0", "read 0 1 2", "read 0 x", "read 0 -1", "read 0 +1", "read 0 4294967296",
                  "read 0 99999999999999999999", "insert 0 1", "read  0 1", "read 0 1 ", " read 0 1", "poke 26 0",
-                 "poke 4294967295 0", "new 4294967295 0", "new 5", "setup 1 1", "words x", "dump 1", "linkmake", "search 0 1"):
+                 "poke 4294967295 0", "new 4294967295 0", "new 5", "setup 1 1", "words x", "dump 1", "linkmake", "search 0 1",
+                 "", " ", "chec", "checks", "check ", "check\t", "c#", "1", "0 check", "splitkeyssplitkeyssplitkeys 0 0", "words", "words ",
+                 "words  1", "words 1 2 4294967296", "words 1 2x", "insert 0 1 1 1", "read 0 42949672950", "linkmake 1 2 3 4 5 6"):
         s.raw(line)
     s.raw("#read 0 1")
     s.raw("# a comment")
     s.raw("check")
     s.raw("insert 0 4294967295 0")
     s.raw("read 0 0")
+    s.raw("read 00 0000000000000000000")
     s.raw("dump")
     return s

@@ -145,7 +145,7 @@ module _ (w : List ℕ) (p : Passes w) where
         rw z at t,
         length-free (getD w 3 0) w (getD w 6 0) (getD w 5 0),
         all-slots (decode w) (p .sound),
-        total-slots (length (decode w .lists)) (decode w .room) (decode w .lists),
+        total-slots (decode w .lists),
       )
 
   at-most-once : (s : ℕ) → timesAll s (decode w .lists) ≤ 1

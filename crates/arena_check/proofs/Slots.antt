@@ -51,9 +51,9 @@ length-slots : (xs : List Node) → length (slots xs) ≡ length xs
 length-slots [] = refl
 length-slots (y ∷ ys) = ap suc (length-slots ys)
 
-pub total-slots : (L C : ℕ) (xss : List (List Node)) → total (slotsAll xss) ≡ totalNodes L C xss
-total-slots L C [] = refl
-total-slots L C (xs ∷ xss) = omega (arith, length-slots xs, total-slots L C xss)
+pub total-slots : (xss : List (List Node)) → total (slotsAll xss) ≡ totalNodes xss
+total-slots [] = refl
+total-slots (xs ∷ xss) = omega (arith, length-slots xs, total-slots xss)
 
 pub total-lengths : (M : ℕ) (w : List ℕ) (a n : ℕ) → lengths M w a + total (slotsAll (listsFrom M w a n)) ≡ lengths M w (a + n)
 unfolding lengths

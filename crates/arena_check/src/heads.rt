@@ -7,8 +7,8 @@ ghost use Rattle.arena_check.specs.Sizes.{Shape, lengths, Differ};
 ghost use Rattle.arena_check.specs.Walked.{ListOk};
 use super::Dims;
 use super::NONE;
+use super::records::word;
 use super::walks::list_ok;
-use super::word;
 use arena::Slot;
 
 // Whether every list is right.

@@ -8,9 +8,9 @@ ghost use Rattle.arena_check.specs.Sizes.{Shape};
 ghost use Rattle.arena_check.specs.Walked.{Spans, Closes, Loose, Owners, NodeOk, WalkOk, ListOk, Taken};
 use super::Dims;
 use super::NONE;
-use super::absent_from;
-use super::within;
-use super::word;
+use super::records::absent_from;
+use super::records::within;
+use super::records::word;
 use arena::Rank;
 use arena::Slot;
 

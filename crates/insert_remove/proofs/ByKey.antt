@@ -1,27 +1,24 @@
 -- The calls by key: the place where an insertion goes, and what the search without an allowance tells a removal. Rests on model's ByKey and Allowed.
-use Prim.Native.Nat.{ℕ, zero, suc, _+_, _≤_, _<_}
+use Prim.Native.Nat.{ℕ, _≤_, _<_}
 use mathlib.Core.Path.{_≡_, refl, sym, ap, _∙_}
 use mathlib.Core.Logic.{⊎-elim}
 use mathlib.Core.Bool.{Bool, true, false, cond}
 use mathlib.Core.List.{List, [], _∷_}
-use lib.Dec.{eqb, leb, ltb}
-use lib.ListN.{length, drop}
+use lib.ListN.{length}
 use native.Mathlib.Omega.{arith}
-use borrow.Author.Tests.{lt-ltb, eq-eqb}
+use borrow.Author.Tests.{lt-ltb}
 use types.Run.{OneOf}
 use denote.Enum.Declared.{tagOf}
 use Rattle.model.specs.Nodes.{Node, node, keyAt, smaller, Sorted}
-use Rattle.model.specs.Walks.{End, ended, isFound, placeOf, keyWalk}
-use Rattle.model.specs.Lists.{insertAt}
+use Rattle.model.specs.Walks.{End, ended, isFound, keyWalk}
 use Rattle.model.specs.Arena.{State, firstFree, listOf, encode}
-use Rattle.model.specs.Calls.{Answer, answer, accepted, refusal, refused, answerTo, resultOf, search, removeKey, insertIn, doInsert, doRemove}
+use Rattle.model.specs.Calls.{Answer, answer, accepted, answerTo, search, insertIn, doInsert, doRemove}
 use Rattle.model.specs.Passes.{decode, nodes}
 use Rattle.model.proofs.Allowed.{not-refused}
 use Rattle.model.proofs.ByKey.{key-place, key-found}
 use Rattle.model.proofs.Counting.{list-few}
 use Rattle.model.proofs.EveryCall.{found-within}
 use Rattle.model.proofs.Keeps.{each-get, sorted-insert}
-use Rattle.model.proofs.Precursor.{FoundFirst}
 use Rattle.model.proofs.Searching.{walk-tally}
 use Rattle.model.proofs.Walk.{smaller-le, tally-le}
 use Rattle.arena.specs.Owners.{Listed}
@@ -31,8 +28,7 @@ use Rattle.walk.specs.declared.Searched.{Searched}
 use Rattle.walk.specs.declared.Searched.the-variants.{Found, Missing, Beyond}
 use Rattle.walk.proofs.Searched.{the-type}
 use Rattle.insert_remove.specs.Changes.{insertedAt, Enters, Leaves}
-use Rattle.insert_remove.specs.Answers.{removedOf, RemovedKey}
-use Rattle.insert_remove.specs.declared.Removed.{Removed}
+use Rattle.insert_remove.specs.Answers.{RemovedKey}
 use Rattle.insert_remove.specs.declared.Removed.the-variants as removed
 
 inserted-in : (S : State) (a k h : ℕ) (fs : List ℕ) → 0 < length fs → S .free ≡ fs → insertedAt S a (smaller k (listOf S a)) k h ≡ insertIn S a k h fs

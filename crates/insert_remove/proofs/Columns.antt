@@ -1,9 +1,9 @@
 -- After the links: the columns 3 to 0 of the head a, of slot e before the place and of slot o, then the header, and the whole.
-use Prim.Native.Nat.{ℕ, zero, suc, _+_, _-_, _*_, _≤_, _<_}
+use Prim.Native.Nat.{ℕ, _-_, _<_}
 use mathlib.Core.Path.{_≡_, refl, sym, ap, _∙_}
 use mathlib.Core.Logic.{_≢_}
 use mathlib.Core.List.{List}
-use lib.ListN.{length, take, getD, set}
+use lib.ListN.{length, getD, set}
 use lib.Seq.{take-set-lt}
 use native.Mathlib.Omega.{arith}
 use Rattle.model.specs.Nodes.{Node}

@@ -5,7 +5,7 @@ use mathlib.Core.Logic.{⊎-elim}
 use mathlib.Core.Bool.{cond}
 use mathlib.Core.List.{_∷_, []}
 use native.Mathlib.Omega.{arith}
-use borrow.Author.Tests.{eq-eqb, ne-eqb}
+use borrow.Author.Tests.{ne-eqb}
 use lib.Dec.{eqb}
 use types.Run.{OneOf}
 use denote.Enum.Declared.{tagOf}
@@ -15,7 +15,7 @@ use Rattle.link.specs.declared.Distance.the-variants.{Is, Invalid, Overflow, Un
 use Rattle.link.proofs.Distance.{the-type}
 use Rattle.model.specs.Links.{further}
 use Rattle.model.proofs.Links.{past}
-use Rattle.model.proofs.Tests.{Same, same, other, same?}
+use Rattle.model.proofs.Tests.{same, other, same?}
 
 -- what a refusal and a distance tell
 pub refused : (r : Distance) {t : Told} → told r ≡ t → OneOf (1 ∷ 2 ∷ 3 ∷ []) (tagOf the-type r) → 0 ≡ t .distance

@@ -4,12 +4,11 @@ use mathlib.Core.Path.{_≡_, refl, sym, ap, _∙_, subst}
 use mathlib.Core.Logic.{_≢_}
 use mathlib.Core.Bool.{cond}
 use mathlib.Core.List.{List, [], _∷_}
-use lib.Dec.{leb, ltb}
+use lib.Dec.{ltb}
 use lib.ListN.{length, take, drop, getD, length-drop}
 use lib.Seq.{length-take-le}
 use native.Mathlib.Nat.{not-suc-le-zero}
 use native.Mathlib.Omega.{arith}
-use borrow.Author.Tests.{lt-ltb, le-ltb}
 use Rattle.model.specs.Nodes.{Node, node, N, slotAt}
 use Rattle.model.specs.Links.{further, target, distance}
 use Rattle.model.specs.Walks.{last}
@@ -22,7 +21,7 @@ use Rattle.model.proofs.Inserting.{withBoth, InsertLike, hung-insert, not-f, f-
 use Rattle.model.proofs.Links.{past}
 use Rattle.model.proofs.Owners.{says-to, says-far}
 use Rattle.model.proofs.Splitting.{slot-take}
-use Rattle.model.proofs.Tests.{Test, hit, miss, test}
+use Rattle.model.proofs.Tests.{hit, miss, test}
 use Rattle.model.proofs.Walk.{last-le}
 use Rattle.arena.specs.Owners.{Before}
 use Rattle.arena.proofs.Relink.{Relinked, relink-start, un-past, old-to-is, old-far-is, turned}
@@ -124,7 +123,7 @@ module _ {w₀ : List ℕ} {m a i k h : ℕ} (p : Enters w₀ m a i k h) where
       let e : l ≡ m = omega arith in
       subst (λ (n : ℕ). Relinked S T (take 8 w₀) m n w → Rehung w₀ T m w) (sym e) (λ q. record { front = q .front; mixed = q .mixed }) g
 
-  module _ {slots ranks : List ℕ} (q : Before w₀ m a i slots ranks) {l : ℕ} {w : List ℕ} (g : Relinked S T (take 8 w₀) m l w) (kl : l < m) where
+  module _ {slots ranks : List ℕ} (q : Before w₀ m a i slots ranks) {l : ℕ} {w : List ℕ} (g : Relinked S T (take 8 w₀) m l w) (kl : l < m) {place : ℕ} (ep : place ≡ i) where
     abbrev s : ℕ
     s = getD slots l 0
 
@@ -137,7 +136,7 @@ module _ {w₀ : List ℕ} {m a i k h : ℕ} (p : Enters w₀ m a i k h) where
     lm : l < S .levels
     lm = omega (arith, p .listed .levels)
 
-    pub rank-le : r ≤ i
+    pub rank-le : r ≤ place
     rank-le = omega (arith, st .within, length-A)
 
     to-is : cellAt m w s (4 + 2 * l) ≡ target (suc l) B
@@ -149,8 +148,8 @@ module _ {w₀ : List ℕ} {m a i k h : ℕ} (p : Enters w₀ m a i k h) where
     o-far : cellAt m w o (5 + 2 * l) ≡ 0
     o-far = g .mixed .above o (5 + 2 * l) o-in (omega arith) (omega arith) ∙ ap (λ (R : List ℕ). getD R (5 + 2 * l) 0) o-S ∙ free-link (S .levels) (drop 1 (S .free)) l lm .1
 
-    pub level-is : {o′ : ℕ} → o′ ≡ o → Level w m l s o′ (i - r)
-    level-is eo = rw eo (record {
+    pub level-is : {o′ : ℕ} → o′ ≡ o → Level w m l s o′ (place - r)
+    level-is eo = rw (eo, ep) (record {
       slot = lies small (g .mixed) s (st .known);
       node = lies small (g .mixed) o o-in;
       level = kl;
@@ -159,8 +158,8 @@ module _ {w₀ : List ℕ} {m a i k h : ℕ} (p : Enters w₀ m a i k h) where
       far-node = omega (arith, o-far);
     })
 
-    pub turn : {o′ h′ : ℕ} → o′ ≡ o → h′ ≡ h → {x : List ℕ} → LevelIn m l h′ s o′ (i - r) w x → Relinked S T (take 8 w₀) m (l + 1) x
-    turn eo eh {x} z = turn-o (rw (eo, eh) at z)
+    pub turn : {o′ h′ : ℕ} → o′ ≡ o → h′ ≡ h → {x : List ℕ} → LevelIn m l h′ s o′ (place - r) w x → Relinked S T (take 8 w₀) m (l + 1) x
+    turn eo eh {x} z = turn-o (rw (eo, eh, ep) at z)
       where
         T-to : getD (recordOf T o) (4 + 2 * l) 0 ≡ cond (ltb l h) (target (suc l) B) N
         T-to = ap (λ (R : List ℕ). getD R (4 + 2 * l) 0) (f-T like) ∙ says-to (S .levels) l lm .node nd B

@@ -1,22 +1,21 @@
 -- An insertion whole: what `insert_before` reads, and the words that it leaves. Rests on InsertLinks and Columns.
-use Prim.Native.Nat.{ℕ, zero, suc, _+_, _-_, _*_, _≤_, _<_}
+use Prim.Native.Nat.{ℕ, _+_, _-_, _≤_, _<_}
 use mathlib.Core.Path.{_≡_, refl, sym, ap, _∙_}
 use mathlib.Core.Logic.{_≢_}
 use mathlib.Core.Bool.{cond}
 use mathlib.Core.List.{List, [], _∷_, _++_}
-use lib.Dec.{leb, eqb}
-use lib.ListN.{length, take, drop, getD, set, length-set, length-append, length-drop, drop-of-length-le}
+use lib.Dec.{eqb}
+use lib.ListN.{length, take, drop, getD, set, length-append, length-drop, drop-of-length-le}
 use native.Mathlib.Omega.{arith}
 use borrow.Author.Tests.{le-leb}
 use Rattle.model.specs.Nodes.{Node, node, slotAt}
-use Rattle.model.specs.Links.{target}
-use Rattle.model.specs.Arena.{State, firstFree, lastSlot, headWords, nodeWords, freeWords, recordOf, slots-of, header, encode}
+use Rattle.model.specs.Arena.{State, firstFree, lastSlot, headWords, nodeWords, recordOf, slots-of, header, encode}
 use Rattle.model.specs.Cells.{Cell, cellAt}
 use Rattle.model.specs.Passes.{decode, nodes, Passes}
-use Rattle.model.proofs.Hang.{Hung, Stage, its-head, head-S, head-T}
+use Rattle.model.proofs.Hang.{Stage, its-head, head-S, head-T}
 use Rattle.model.proofs.Inserting.{not-f, f-T}
 use Rattle.model.proofs.Owners.{says-next}
-use Rattle.model.proofs.Tests.{Same, same, other, same?}
+use Rattle.model.proofs.Tests.{same, other, same?}
 use Rattle.model.proofs.Walk.{last-zero}
 use Rattle.arena.proofs.Places.{length-encode}
 use Rattle.arena.proofs.Relink.{Half, there}

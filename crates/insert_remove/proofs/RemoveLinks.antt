@@ -3,9 +3,9 @@ use Prim.Native.Nat.{ℕ, zero, suc, _+_, _-_, _*_, _≤_, _<_}
 use mathlib.Core.Path.{_≡_, refl, sym, ap, _∙_, subst}
 use mathlib.Core.Logic.{_≢_}
 use mathlib.Core.Bool.{cond}
-use mathlib.Core.List.{List, [], _∷_, _++_}
-use lib.Dec.{leb, ltb, eqb}
-use lib.ListN.{length, take, drop, getD, set, length-set, length-drop}
+use mathlib.Core.List.{List, [], _∷_}
+use lib.Dec.{ltb, eqb}
+use lib.ListN.{length, take, drop, getD, length-set, length-drop}
 use lib.Seq.{getD-set-same, getD-set-other, length-take-le, split-at}
 use native.Mathlib.Omega.{arith}
 use Rattle.model.specs.Nodes.{Node, node, N, slotAt, at}
@@ -23,10 +23,10 @@ use Rattle.model.proofs.Keeps.{sound-remove}
 use Rattle.model.proofs.Links.{past}
 use Rattle.model.proofs.Owners.{says-to, says-far}
 use Rattle.model.proofs.Splitting.{slot-take}
-use Rattle.model.proofs.Tests.{Test, hit, miss, test}
+use Rattle.model.proofs.Tests.{hit, miss, test}
 use Rattle.model.proofs.Walk.{last-le}
 use Rattle.arena.specs.Owners.{Before}
-use Rattle.arena.proofs.Relink.{Relinked, relink-start, old-to-is, old-far-is, turned}
+use Rattle.arena.proofs.Relink.{Relinked, relink-start, old-far-is, turned}
 use Rattle.insert_remove.specs.Changes.{Leaves, Rehung}
 use Rattle.insert_remove.specs.Levels.{Level, LevelOut}
 use Rattle.insert_remove.proofs.Distances.{farther-is}
@@ -102,7 +102,7 @@ module _ {w₀ : List ℕ} {m a i : ℕ} (p : Leaves w₀ m a i) where
       let e : l ≡ m = omega arith in
       subst (λ (n : ℕ). Relinked S T (take 8 w₀) m n w → Rehung w₀ T m w) (sym e) (λ q. record { front = q .front; mixed = q .mixed }) g
 
-  module _ {slots ranks : List ℕ} (q : Before w₀ m a i slots ranks) {l : ℕ} {w : List ℕ} (g : Relinked S T (take 8 w₀) m l w) (kl : l < m) where
+  module _ {slots ranks : List ℕ} (q : Before w₀ m a i slots ranks) {l : ℕ} {w : List ℕ} (g : Relinked S T (take 8 w₀) m l w) (kl : l < m) {place : ℕ} (ep : place ≡ i) where
     abbrev s : ℕ
     s = getD slots l 0
 
@@ -115,7 +115,7 @@ module _ {w₀ : List ℕ} {m a i : ℕ} (p : Leaves w₀ m a i) where
     lm : l < S .levels
     lm = omega (arith, p .listed .levels)
 
-    pub rank-le : r ≤ i
+    pub rank-le : r ≤ place
     rank-le = omega (arith, st .within, length-A)
 
     far-is : cellAt m w s (5 + 2 * l) ≡ past (length A - r) (distance (suc l) (nd ∷ B))
@@ -133,8 +133,8 @@ module _ {w₀ : List ℕ} {m a i : ℕ} (p : Leaves w₀ m a i) where
       | miss e c ↦ omega (arith, rw e at o-far)
     ]
 
-    pub level-is : {o′ : ℕ} → o′ ≡ o → Level w m l s o′ (i - r)
-    level-is eo = rw eo (record {
+    pub level-is : {o′ : ℕ} → o′ ≡ o → Level w m l s o′ (place - r)
+    level-is eo = rw (eo, ep) (record {
       slot = lies small (g .mixed) s (st .known);
       node = lies small (g .mixed) o o-in;
       level = kl;
@@ -143,8 +143,8 @@ module _ {w₀ : List ℕ} {m a i : ℕ} (p : Leaves w₀ m a i) where
       far-node = omega (arith, o-far-le, length-drop (suc i) xs, few);
     })
 
-    pub turn : {o′ h′ : ℕ} → o′ ≡ o → h′ ≡ nd .height → {x : List ℕ} → LevelOut m l h′ s o′ (i - r) w x → Relinked S T (take 8 w₀) m (l + 1) x
-    turn eo eh {x} z = turn-o (rw (eo, eh) at z)
+    pub turn : {o′ h′ : ℕ} → o′ ≡ o → h′ ≡ nd .height → {x : List ℕ} → LevelOut m l h′ s o′ (place - r) w x → Relinked S T (take 8 w₀) m (l + 1) x
+    turn eo eh {x} z = turn-o (rw (eo, eh, ep) at z)
       where
         ne : s ≢ o
         ne = not-f like s (st .owner)

@@ -1,24 +1,23 @@
 -- A removal whole: what `remove_after` reads, and the words that it leaves. Rests on RemoveLinks and Columns.
-use Prim.Native.Nat.{ℕ, zero, suc, _+_, _-_, _*_, _≤_, _<_}
+use Prim.Native.Nat.{ℕ, suc, _+_, _-_, _≤_, _<_}
 use mathlib.Core.Path.{_≡_, refl, sym, ap, _∙_}
 use mathlib.Core.Logic.{_≢_}
 use mathlib.Core.Bool.{cond}
-use mathlib.Core.List.{List, [], _∷_, _++_, append-nil}
-use lib.Dec.{leb, eqb}
+use mathlib.Core.List.{List, _∷_, _++_, append-nil}
+use lib.Dec.{eqb}
 use lib.ListN.{length, take, drop, getD, set, length-append, length-drop, drop-of-length-le}
 use native.Mathlib.Omega.{arith}
 use borrow.Author.Tests.{le-leb}
-use Rattle.model.specs.Nodes.{Node, node, N, slotAt, at}
-use Rattle.model.specs.Links.{target}
+use Rattle.model.specs.Nodes.{Node, N, slotAt, at}
 use Rattle.model.specs.Arena.{State, lastSlot, headWords, nodeWords, freeWords, recordOf, slots-of, header, encode}
 use Rattle.model.specs.Calls.{doRemove}
 use Rattle.model.specs.Cells.{Cell, cellAt}
 use Rattle.model.specs.Passes.{decode, nodes}
-use Rattle.model.proofs.Hang.{Hung, Stage, its-head, head-S, head-T}
+use Rattle.model.proofs.Hang.{Stage, its-head, head-S, head-T}
 use Rattle.model.proofs.Inserting.{not-f, f-T, f-S}
 use Rattle.model.proofs.Owners.{says-next}
 use Rattle.model.proofs.Splitting.{last-slot-take}
-use Rattle.model.proofs.Tests.{Same, same, other, same?}
+use Rattle.model.proofs.Tests.{same, other, same?}
 use Rattle.model.proofs.Walk.{last-zero}
 use Rattle.arena.proofs.Relink.{Half, there}
 use Rattle.insert_remove.specs.Changes.{Leaves, Lies, Rehung, columns}

@@ -1,10 +1,18 @@
--- Stores put together: those of one level, and those of the columns 3 to 0.
-use Prim.Native.Nat.{ℕ, _+_, _*_, _-_}
+-- Words of a record that lies in the slice, and stores put together: those of one level, and those of the columns 3 to 0.
+use Prim.Native.Nat.{ℕ, _+_, _*_, _-_, _<_}
 use mathlib.Core.Path.{_≡_}
 use mathlib.Core.List.{List}
-use Rattle.model.specs.Cells.{cellAt, putAt}
-use Rattle.insert_remove.specs.Changes.{columns}
+use lib.ListN.{length}
+use native.Mathlib.Omega.{arith}
+use Rattle.model.specs.Cells.{Cell, cellAt, putAt}
+use Rattle.insert_remove.specs.Changes.{Lies, columns}
 use Rattle.insert_remove.specs.Levels.{relink}
+
+pub in-record : {w : List ℕ} {m s : ℕ} → Lies w m s → {c : ℕ} → c < 4 + 2 * m → Cell w m s c
+in-record p l = record { small = p .small; column = l; inside = omega arith }
+
+pub lies-then : {w u : List ℕ} {m s : ℕ} → Lies w m s → length u ≡ length w → Lies u m s
+lies-then p e = record { small = p .small; inside = omega arith }
 
 module _ (m l s : ℕ) (w : List ℕ) {x : List ℕ} where
   pub relinked : (o : ℕ) {u : List ℕ} {to far to′ far′ t f t′ f′ : ℕ} → u ≡ putAt m (putAt m w s (4 + 2 * l) to) o (4 + 2 * l) to′

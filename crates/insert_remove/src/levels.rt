@@ -1,6 +1,7 @@
 // The links that change where a node goes in or out: level by level, by a path of precursors.
 use arena::Index;
 use arena::Path;
+use arena::Rank;
 use arena::Slot;
 use arena::cell;
 use arena::put;
@@ -119,7 +120,7 @@ pub fn insert_links(
 {
     let slots = path.slots;
     let ranks = path.ranks;
-    let place = i.0;
+    let place = Rank::before(i).0;
     let h = wide(height);
     let mut l = 0;
     while l < m {
@@ -135,7 +136,7 @@ pub fn remove_links(w: &mut [u32], m: usize, list: Slot, i: Index, o: Slot, h: u
 {
     let slots = path.slots;
     let ranks = path.ranks;
-    let place = i.0;
+    let place = Rank::before(i).0;
     let mut l = 0;
     while l < m {
         remove_level(w, m, l, h, Slot(slots[l]), o, place - ranks[l]);

@@ -3,6 +3,7 @@ mod levels;
 
 use arena::Index;
 use arena::Path;
+use arena::Rank;
 use arena::Slot;
 use arena::cell;
 use arena::header;
@@ -20,7 +21,7 @@ ghost use lib.Dec.{eqb};
 ghost use lib.ListN.{length, set};
 ghost use Rattle.model.specs.Nodes.{N, keyAt};
 ghost use Rattle.model.specs.Arena.{encode};
-ghost use Rattle.model.specs.Calls.{doInsert, doRemove, removeKey};
+ghost use Rattle.model.specs.Calls.{doInsert, doRemove};
 ghost use Rattle.model.specs.Passes.{decode, nodes};
 ghost use Rattle.arena.specs.Owners.{Listed, Leads};
 ghost use Rattle.insert_remove.specs.Changes.{insertedAt, Enters, Leaves, Lies, columns};
@@ -78,7 +79,7 @@ fn last_without(i: Index, n: u32, end: Slot, last: u32) -> u32
     requires { ⌜ i .0 < 4294967295 ⌝ }
     ensures { λ r. ⌜ r ≡ cond (eqb (i .0 + 1) n) (cond (eqb (i .0) 0) N (end .0)) last ⌝ }
 {
-    let rank = i.0 + 1;
+    let rank = Rank::from_index(i).0;
     if rank == n {
         if i.0 == 0 {
             return Slot::NONE.0;

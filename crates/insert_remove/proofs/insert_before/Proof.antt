@@ -1,8 +1,6 @@
 -- `insert_remove::insert_before` meets its contract: the words read are those of the model, and the links, the columns and the header make the new one.
-use Prim.Native.Nat.{ℕ}
 use mathlib.Core.Path.{_∙_}
 use native.Mathlib.Omega.{arith}
-use borrow.Author.Needs.{needs}
 use Rattle.insert_remove.proofs.InsertWhole.{first-is, long, cell-free, cell-head, count-fits, some-free, cell-end, all-lie, insert-done}
 use Rattle.insert_remove.proofs.insert_before.Statement.{statement}
 use Rattle.insert_remove.proofs.insert_before.Tie as tie

@@ -1,20 +1,20 @@
 -- `insert_remove::last_without` meets its contract: each return rewrites the definition by the tests that led to it.
-use borrow.Author.Needs.{needs}
+use mathlib.Core.Path.{refl, sym, _∙_}
 use borrow.Author.Tests.{eq-eqb, ne-eqb}
 use Rattle.insert_remove.proofs.last_without.Statement.{statement}
 use Rattle.insert_remove.proofs.last_without.Tie as tie
 
-add-rank : tie.Need-add-rank
-add-rank c = search needs
+from-index-requires : tie.Need-from-index-requires
+from-index-requires c κs = c .pre
 
 returns : tie.Need-returns
-returns c = search (needs, eq-eqb)
+returns c = rw (eq-eqb _ _ (sym (c .before .before .before .from-index .ensures) ∙ c .before .before .if1 .taken), eq-eqb _ _ (c .if2 .taken)) refl
 
 returns-2 : tie.Need-returns-2
-returns-2 c = search (needs, eq-eqb, ne-eqb)
+returns-2 c = rw (eq-eqb _ _ (sym (c .before .before .before .from-index .ensures) ∙ c .before .before .if1 .taken), ne-eqb _ _ (c .if2 .left)) refl
 
 returns-3 : tie.Need-returns-3
-returns-3 c = search (needs, ne-eqb)
+returns-3 c = rw (ne-eqb _ _ (λ z. c .if1 .left (c .before .from-index .ensures ∙ z))) refl
 
 pub last-without-spec : {M : Type 1} → statement M
-last-without-spec = tie.close (tie.spec add-rank returns returns-2 returns-3)
+last-without-spec = tie.close (tie.spec from-index-requires returns returns-2 returns-3)

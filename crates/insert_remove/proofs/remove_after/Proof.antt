@@ -1,5 +1,4 @@
 -- `insert_remove::remove_after` meets its contract: the words read are those of the model, and the links, the columns and the header make the new one.
-use Prim.Native.Nat.{ℕ}
 use mathlib.Core.Path.{_∙_}
 use native.Mathlib.Omega.{arith}
 use Rattle.insert_remove.proofs.InsertWhole.{long}

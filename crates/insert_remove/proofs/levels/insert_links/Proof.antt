@@ -1,9 +1,8 @@
 -- `insert_remove::levels::insert_links` meets its contract: after l turns the links of the levels below l are those of the new model.
 use Prim.Native.Nat.{ℕ, _-_, _≤_}
-use mathlib.Core.Path.{_≡_, refl}
+use mathlib.Core.Path.{_≡_}
 use native.Mathlib.Omega.{arith}
 use lib.ListN.{take}
-use borrow.Author.Needs.{needs}
 use Rattle.model.specs.Passes.{decode}
 use Rattle.arena.specs.Owners.{Before}
 use Rattle.arena.proofs.Relink.{Relinked}
@@ -13,50 +12,53 @@ use Rattle.insert_remove.proofs.levels.insert_links.Statement.{statemen
 use Rattle.insert_remove.proofs.levels.insert_links.Tie as tie
 
 abbrev Inv-loop : tie.InvT-loop
-Inv-loop w₀ m key height o slots ranks place h l₀ w l = ((a : ℕ) → Enters w₀ m a place key height → Before w₀ m a place slots ranks → Relinked (decode w₀) (insertedAt (decode w₀) a place key height) (take 8 w₀) m l w) × (l ≤ m)
+Inv-loop w₀ m key height o slots ranks place h l₀ w l =
+    ((a i : ℕ) → place ≡ i → Enters w₀ m a i key height → Before w₀ m a i slots ranks → Relinked (decode w₀) (insertedAt (decode w₀) a i key height) (take 8 w₀) m l w) × (l ≤ m)
 
 abbrev μ-loop : tie.MeasureT-loop
 μ-loop w₀ m key height o slots ranks place h l₀ w l = m - l
+
+before-requires : tie.Need-before-requires Inv-loop μ-loop
+before-requires c κs = tt
 
 wide-requires : tie.Need-wide-requires Inv-loop μ-loop
 wide-requires c κs = tt
 
 loop-holds : tie.Need-loop-holds Inv-loop μ-loop
-loop-holds c = ((λ a p q. insert-start p), omega arith)
+loop-holds c = ((λ a i e p q. insert-start p), omega arith)
 
-mul-t18 : tie.Need-mul-t18 Inv-loop μ-loop
-mul-t18 c = omega (arith, small (c .before .before .before .before .before .before .before .pre .0 .0), c .before .loop-test .taken)
+mul-t19 : tie.Need-mul-t19 Inv-loop μ-loop
+mul-t19 c = omega (arith, small (c .before .before .before .before .before .before .before .before .pre .0 .0), c .before .loop-test .taken)
 
-array-read-t21 : tie.Need-array-read-t21 Inv-loop μ-loop
-array-read-t21 c = omega (arith, small (c .before .before .before .before .before .before .before .pre .0 .0), c .before .loop-test .taken)
+array-read-t22 : tie.Need-array-read-t22 Inv-loop μ-loop
+array-read-t22 c = omega (arith, small (c .before .before .before .before .before .before .before .before .pre .0 .0), c .before .loop-test .taken)
 
 mul-insert-level : tie.Need-mul-insert-level Inv-loop μ-loop
-mul-insert-level c = omega (arith, small (c .before .before .before .before .before .before .before .pre .0 .0), c .before .loop-test .taken)
+mul-insert-level c = omega (arith, small (c .before .before .before .before .before .before .before .before .pre .0 .0), c .before .loop-test .taken)
 
 array-read-insert-level : tie.Need-array-read-insert-level Inv-loop μ-loop
-array-read-insert-level c = omega (arith, small (c .before .before .before .before .before .before .before .pre .0 .0), c .before .loop-test .taken)
+array-read-insert-level c = omega (arith, small (c .before .before .before .before .before .before .before .before .pre .0 .0), c .before .loop-test .taken)
 
 sub-insert-level : tie.Need-sub-insert-level Inv-loop μ-loop
-sub-insert-level c = rank-le (c .before .before .before .before .before .before .before .pre .0 .0) (c .before .before .before .before .before .before .before .pre .0 .1 .before) (c .before .before .loop .inv .0 _ (c .before .before .before .before .before .before .before .pre .0 .0) (c .before .before .before .before .before .before .before .pre .0 .1 .before)) (c .before .loop-test .taken)
+sub-insert-level c = rank-le (c .before .before .before .before .before .before .before .before .pre .0 .0) (c .before .before .before .before .before .before .before .before .pre .0 .1 .before) (c .before .before .loop .inv .0 _ _ (c .before .before .before .before .before2 .ensures) (c .before .before .before .before .before .before .before .before .pre .0 .0) (c .before .before .before .before .before .before .before .before .pre .0 .1 .before)) (c .before .loop-test .taken) (c .before .before .before .before .before2 .ensures)
 
 insert-level-requires : tie.Need-insert-level-requires Inv-loop μ-loop
-insert-level-requires c κs = level-is (c .before .before .before .before .before .before .before .pre .0 .0) (c .before .before .before .before .before .before .before .pre .0 .1 .before) (c .before .before .loop .inv .0 _ (c .before .before .before .before .before .before .before .pre .0 .0) (c .before .before .before .before .before .before .before .pre .0 .1 .before)) (c .before .loop-test .taken) (c .before .before .before .before .before .before .before .pre .1)
+insert-level-requires c κs = level-is (c .before .before .before .before .before .before .before .before .pre .0 .0) (c .before .before .before .before .before .before .before .before .pre .0 .1 .before) (c .before .before .loop .inv .0 _ _ (c .before .before .before .before .before2 .ensures) (c .before .before .before .before .before .before .before .before .pre .0 .0) (c .before .before .before .before .before .before .before .before .pre .0 .1 .before)) (c .before .loop-test .taken) (c .before .before .before .before .before2 .ensures) (c .before .before .before .before .before .before .before .before .pre .1)
 
 add-l : tie.Need-add-l Inv-loop μ-loop
-add-l c = omega (arith, small (c .before .before .before .before .before .before .before .before .before .before .pre .0 .0), c .before .before .before .before .loop-test .taken)
+add-l c = omega (arith, small (c .before .before .before .before .before .before .before .before .before .before .before .pre .0 .0), c .before .before .before .before .loop-test .taken)
 
 loop-less : tie.Need-loop-less Inv-loop μ-loop
 loop-less c = omega (arith, c .before .before .before .before .loop-test .taken)
 
 loop-again : tie.Need-loop-again Inv-loop μ-loop
-loop-again c =
-    ((λ a p q. turn p q (c .before .before .before .before .before .loop .inv .0 a p q) (c .before .before .before .before .loop-test .taken) (c .before .before .before .before .before .before .before .before .before .before .pre .1) (c .before .before .before .before .before .before .wide .ensures) (c .before .before .insert-level .ensures)), omega (arith, c .before .before .before .before .loop-test .taken))
+loop-again c = ((λ a i e p q. turn p q (c .before .before .before .before .before .loop .inv .0 a i e p q) (c .before .before .before .before .loop-test .taken) e (c .before .before .before .before .before .before .before .before .before .before .before .pre .1) (c .before .before .before .before .before .before .wide .ensures) (c .before .before .insert-level .ensures)), omega (arith, c .before .before .before .before .loop-test .taken))
 
 same-length : tie.Need-same-length Inv-loop μ-loop
-same-length c = insert-size (c .before .before .before .before .before .before .pre .0 .0) (c .before .loop .inv .0 _ (c .before .before .before .before .before .before .pre .0 .0) (c .before .before .before .before .before .before .pre .0 .1 .before))
+same-length c = insert-size (c .before .before .before .before .before .before .before .pre .0 .0) (c .before .loop .inv .0 _ _ (c .before .before .before .before2 .ensures) (c .before .before .before .before .before .before .before .pre .0 .0) (c .before .before .before .before .before .before .before .pre .0 .1 .before))
 
 returns : tie.Need-returns Inv-loop μ-loop
-returns c = inserted (c .before .before .before .before .before .before .pre .0 .0) (c .before .loop .inv .0 _ (c .before .before .before .before .before .before .pre .0 .0) (c .before .before .before .before .before .before .pre .0 .1 .before)) (c .before .loop .inv .1) (c .loop-test .left)
+returns c = inserted (c .before .before .before .before .before .before .before .pre .0 .0) (c .before .loop .inv .0 _ _ (c .before .before .before .before2 .ensures) (c .before .before .before .before .before .before .before .pre .0 .0) (c .before .before .before .before .before .before .before .pre .0 .1 .before)) (c .before .loop .inv .1) (c .loop-test .left)
 
 pub insert-links-spec : {M : Type 1} → statement M
 insert-links-spec =
@@ -64,10 +66,11 @@ insert-links-spec =
     (tie.spec
     Inv-loop
     μ-loop
+    before-requires
     wide-requires
     loop-holds
-    mul-t18
-    array-read-t21
+    mul-t19
+    array-read-t22
     mul-insert-level
     array-read-insert-level
     sub-insert-level

@@ -15,48 +15,50 @@ use Rattle.insert_remove.proofs.levels.remove_links.Tie as tie
 
 abbrev Inv-loop : tie.InvT-loop
 Inv-loop w₀ m o h slots ranks place l₀ w l =
-    ((a : ℕ) → Leaves w₀ m a place → Before w₀ m a place slots ranks → o .0 ≡ at (nodes w₀ a) place .slot → h ≡ at (nodes w₀ a) place .height
-    → Relinked (decode w₀) (doRemove (decode w₀) a place) (take 8 w₀) m l w) × (l ≤ m)
+    ((a i : ℕ) → place ≡ i → Leaves w₀ m a i → Before w₀ m a i slots ranks → o .0 ≡ at (nodes w₀ a) i .slot → h ≡ at (nodes w₀ a) i .height
+    → Relinked (decode w₀) (doRemove (decode w₀) a i) (take 8 w₀) m l w) × (l ≤ m)
 
 abbrev μ-loop : tie.MeasureT-loop
 μ-loop w₀ m o h slots ranks place l₀ w l = m - l
 
+before-requires : tie.Need-before-requires Inv-loop μ-loop
+before-requires c κs = tt
+
 loop-holds : tie.Need-loop-holds Inv-loop μ-loop
-loop-holds c = ((λ a p q e d. remove-start p), omega arith)
+loop-holds c = ((λ a i e p q x y. remove-start p), omega arith)
 
-mul-t16 : tie.Need-mul-t16 Inv-loop μ-loop
-mul-t16 c = omega (arith, small (c .before .before .before .before .before .before .pre .0 .0), c .before .loop-test .taken)
+mul-t17 : tie.Need-mul-t17 Inv-loop μ-loop
+mul-t17 c = omega (arith, small (c .before .before .before .before .before .before .before .pre .0 .0), c .before .loop-test .taken)
 
-array-read-t19 : tie.Need-array-read-t19 Inv-loop μ-loop
-array-read-t19 c = omega (arith, small (c .before .before .before .before .before .before .pre .0 .0), c .before .loop-test .taken)
+array-read-t20 : tie.Need-array-read-t20 Inv-loop μ-loop
+array-read-t20 c = omega (arith, small (c .before .before .before .before .before .before .before .pre .0 .0), c .before .loop-test .taken)
 
 mul-remove-level : tie.Need-mul-remove-level Inv-loop μ-loop
-mul-remove-level c = omega (arith, small (c .before .before .before .before .before .before .pre .0 .0), c .before .loop-test .taken)
+mul-remove-level c = omega (arith, small (c .before .before .before .before .before .before .before .pre .0 .0), c .before .loop-test .taken)
 
 array-read-remove-level : tie.Need-array-read-remove-level Inv-loop μ-loop
-array-read-remove-level c = omega (arith, small (c .before .before .before .before .before .before .pre .0 .0), c .before .loop-test .taken)
+array-read-remove-level c = omega (arith, small (c .before .before .before .before .before .before .before .pre .0 .0), c .before .loop-test .taken)
 
 sub-remove-level : tie.Need-sub-remove-level Inv-loop μ-loop
-sub-remove-level c = rank-le (c .before .before .before .before .before .before .pre .0 .0) (c .before .before .before .before .before .before .pre .0 .1 .before) (c .before .before .loop .inv .0 _ (c .before .before .before .before .before .before .pre .0 .0) (c .before .before .before .before .before .before .pre .0 .1 .before) (c .before .before .before .before .before .before .pre .1 .0) (c .before .before .before .before .before .before .pre .1 .1)) (c .before .loop-test .taken)
+sub-remove-level c = rank-le (c .before .before .before .before .before .before .before .pre .0 .0) (c .before .before .before .before .before .before .before .pre .0 .1 .before) (c .before .before .loop .inv .0 _ _ (c .before .before .before .before2 .ensures) (c .before .before .before .before .before .before .before .pre .0 .0) (c .before .before .before .before .before .before .before .pre .0 .1 .before) (c .before .before .before .before .before .before .before .pre .1 .0) (c .before .before .before .before .before .before .before .pre .1 .1)) (c .before .loop-test .taken) (c .before .before .before .before2 .ensures)
 
 remove-level-requires : tie.Need-remove-level-requires Inv-loop μ-loop
-remove-level-requires c κs = level-is (c .before .before .before .before .before .before .pre .0 .0) (c .before .before .before .before .before .before .pre .0 .1 .before) (c .before .before .loop .inv .0 _ (c .before .before .before .before .before .before .pre .0 .0) (c .before .before .before .before .before .before .pre .0 .1 .before) (c .before .before .before .before .before .before .pre .1 .0) (c .before .before .before .before .before .before .pre .1 .1)) (c .before .loop-test .taken) (c .before .before .before .before .before .before .pre .1 .0)
+remove-level-requires c κs = level-is (c .before .before .before .before .before .before .before .pre .0 .0) (c .before .before .before .before .before .before .before .pre .0 .1 .before) (c .before .before .loop .inv .0 _ _ (c .before .before .before .before2 .ensures) (c .before .before .before .before .before .before .before .pre .0 .0) (c .before .before .before .before .before .before .before .pre .0 .1 .before) (c .before .before .before .before .before .before .before .pre .1 .0) (c .before .before .before .before .before .before .before .pre .1 .1)) (c .before .loop-test .taken) (c .before .before .before .before2 .ensures) (c .before .before .before .before .before .before .before .pre .1 .0)
 
 add-l : tie.Need-add-l Inv-loop μ-loop
-add-l c = omega (arith, small (c .before .before .before .before .before .before .before .before .before .pre .0 .0), c .before .before .before .before .loop-test .taken)
+add-l c = omega (arith, small (c .before .before .before .before .before .before .before .before .before .before .pre .0 .0), c .before .before .before .before .loop-test .taken)
 
 loop-less : tie.Need-loop-less Inv-loop μ-loop
 loop-less c = omega (arith, c .before .before .before .before .loop-test .taken)
 
 loop-again : tie.Need-loop-again Inv-loop μ-loop
-loop-again c =
-    ((λ a p q e d. turn p q (c .before .before .before .before .before .loop .inv .0 a p q e d) (c .before .before .before .before .loop-test .taken) e d (c .before .before .remove-level .ensures)), omega (arith, c .before .before .before .before .loop-test .taken))
+loop-again c = ((λ a i e p q x y. turn p q (c .before .before .before .before .before .loop .inv .0 a i e p q x y) (c .before .before .before .before .loop-test .taken) e x y (c .before .before .remove-level .ensures)), omega (arith, c .before .before .before .before .loop-test .taken))
 
 same-length : tie.Need-same-length Inv-loop μ-loop
-same-length c = remove-size (c .before .before .before .before .before .pre .0 .0) (c .before .loop .inv .0 _ (c .before .before .before .before .before .pre .0 .0) (c .before .before .before .before .before .pre .0 .1 .before) (c .before .before .before .before .before .pre .1 .0) (c .before .before .before .before .before .pre .1 .1))
+same-length c = remove-size (c .before .before .before .before .before .before .pre .0 .0) (c .before .loop .inv .0 _ _ (c .before .before .before2 .ensures) (c .before .before .before .before .before .before .pre .0 .0) (c .before .before .before .before .before .before .pre .0 .1 .before) (c .before .before .before .before .before .before .pre .1 .0) (c .before .before .before .before .before .before .pre .1 .1))
 
 returns : tie.Need-returns Inv-loop μ-loop
-returns c = removed (c .before .before .before .before .before .pre .0 .0) (c .before .loop .inv .0 _ (c .before .before .before .before .before .pre .0 .0) (c .before .before .before .before .before .pre .0 .1 .before) (c .before .before .before .before .before .pre .1 .0) (c .before .before .before .before .before .pre .1 .1)) (c .before .loop .inv .1) (c .loop-test .left)
+returns c = removed (c .before .before .before .before .before .before .pre .0 .0) (c .before .loop .inv .0 _ _ (c .before .before .before2 .ensures) (c .before .before .before .before .before .before .pre .0 .0) (c .before .before .before .before .before .before .pre .0 .1 .before) (c .before .before .before .before .before .before .pre .1 .0) (c .before .before .before .before .before .before .pre .1 .1)) (c .before .loop .inv .1) (c .loop-test .left)
 
 pub remove-links-spec : {M : Type 1} → statement M
 remove-links-spec =
@@ -64,9 +66,10 @@ remove-links-spec =
     (tie.spec
     Inv-loop
     μ-loop
+    before-requires
     loop-holds
-    mul-t16
-    array-read-t19
+    mul-t17
+    array-read-t20
     mul-remove-level
     array-read-remove-level
     sub-remove-level

@@ -1,0 +1,132 @@
+// Reads a call script (docs/CALLS.md) on standard input and writes one answer line for each call.
+mod answers;
+mod items;
+mod names;
+mod slice;
+
+ghost use Prim.Native.Nat.{_≤_};
+ghost use lib.ListN.{length};
+ghost use Rattle.script.specs.Lines.{Within};
+ghost use Rattle.calls.specs.Desks.{Ready};
+use script::Line;
+use script::Reading;
+
+// The line that is being read, how many words are lent, and whether the input may go on.
+pub struct Desk {
+    pub line: Line,
+    pub len: usize,
+    pub open: bool,
+}
+
+// A whole line; the answer is the length of the lent slice from now on.
+fn line_end(words: &mut [u32], numbers: &mut [u32], line: Line, len: usize) -> usize
+    requires { ⌜ len ≤ length (now words) ⌝ }
+    requires { ⌜ Within line (now numbers) ⌝ }
+    ensures { λ r. ⌜ r ≤ length (now (words .exit)) ⌝ }
+{
+    let whole = script::finish(line, numbers);
+    let reading = whole.reading;
+    match reading {
+        Reading::Name => {
+            let count = whole.count;
+            items::item(words, len, whole.name, &numbers[..count])
+        }
+        Reading::Comment => len,
+        _ => {
+            answers::unknown();
+            len
+        }
+    }
+}
+
+fn byte(words: &mut [u32], numbers: &mut [u32], desk: Desk, b: u8) -> Desk
+    requires { ⌜ Ready desk (now words) (now numbers) ⌝ }
+    ensures { λ r. ⌜ Ready r (now (words .exit)) (now (numbers .exit)) ⌝ }
+{
+    let line = desk.line;
+    if b == b'\n' {
+        let len = line_end(words, numbers, line, desk.len);
+        let blank = Line::new();
+        return Desk {
+            line: blank,
+            len,
+            open: true,
+        };
+    }
+    let longer = script::step(line, b, numbers);
+    Desk {
+        line: longer,
+        len: desk.len,
+        open: true,
+    }
+}
+
+fn feed(words: &mut [u32], numbers: &mut [u32], desk: Desk, bytes: &[u8]) -> Desk
+    requires { ⌜ Ready desk (now words) (now numbers) ⌝ }
+    ensures { λ r. ⌜ Ready r (now (words .exit)) (now (numbers .exit)) ⌝ }
+{
+    let mut d = desk;
+    let mut i: usize = 0;
+    while i < bytes.len() {
+        d = byte(words, numbers, d, bytes[i]);
+        i += 1;
+    }
+    d
+}
+
+// The end of the input: a last line without a newline is run.
+fn finish(words: &mut [u32], numbers: &mut [u32], desk: Desk) -> Desk
+    requires { ⌜ Ready desk (now words) (now numbers) ⌝ }
+    ensures { λ r. ⌜ Ready r (now (words .exit)) (now (numbers .exit)) ⌝ }
+{
+    let line = desk.line;
+    let blank = Line::new();
+    let reading = line.reading;
+    let len = match reading {
+        Reading::Nothing => desk.len,
+        _ => line_end(words, numbers, line, desk.len),
+    };
+    Desk {
+        line: blank,
+        len,
+        open: false,
+    }
+}
+
+// Runs what has arrived.
+fn turn(words: &mut [u32], numbers: &mut [u32], desk: Desk) -> Desk
+    requires { ⌜ Ready desk (now words) (now numbers) ⌝ }
+    ensures { λ r. ⌜ Ready r (now (words .exit)) (now (numbers .exit)) ⌝ }
+{
+    let mut buffer = io::large_buffer();
+    let got = libc::read(0, &mut buffer);
+    let n = io::count(got, &buffer);
+    if n == 0 {
+        return finish(words, numbers, desk);
+    }
+    feed(words, numbers, desk, &buffer[..n])
+}
+
+// A proved loop has to end, and nothing says that the input does: the turns count down from a number that no run uses up.
+fn run(words: &mut [u32], numbers: &mut [u32]) {
+    let blank = Line::new();
+    let mut desk = Desk {
+        line: blank,
+        len: 0,
+        open: true,
+    };
+    let mut turns = u64::MAX;
+    while turns > 0 {
+        desk = turn(words, numbers, desk);
+        if !desk.open {
+            return;
+        }
+        turns -= 1;
+    }
+}
+
+fn main() {
+    let mut words = [0u32; 262144];
+    let mut numbers = [0u32; 262144];
+    run(&mut words, &mut numbers);
+}

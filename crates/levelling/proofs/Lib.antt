@@ -1,0 +1,4 @@
+pub mod Heights
+pub mod Passing
+pub mod OneNode
+pub mod Whole

@@ -1,0 +1,6 @@
+pub mod Distances
+pub mod LinkWords
+pub mod SplitTurn
+pub mod SplitHeads
+pub mod JoinTurn
+pub mod JoinHeads

@@ -1,0 +1,5 @@
+pub mod Heads
+pub mod Leaving
+pub mod Appending
+pub mod Merging
+pub mod Trimming

@@ -1,0 +1,22 @@
+-- `structural::follow` meets its contract: the walk to the end of a leads to its length.
+use borrow.Author.Needs.{needs}
+use Rattle.structural.proofs.follow.Statement.{statement}
+use Rattle.structural.proofs.follow.Tie as tie
+
+count-requires : tie.Need-count-requires
+count-requires c κs = search needs
+
+seek-requires : tie.Need-seek-requires
+seek-requires c κs = search needs
+
+join-requires : tie.Need-join-requires
+join-requires c κs = (c .before .before .before .before .before .before .pre, rw (c .before .before .before .count .ensures) at (c .before .seek .ensures))
+
+same-length : tie.Need-same-length
+same-length c = search needs
+
+returns : tie.Need-returns
+returns c = search needs
+
+pub follow-spec : {M : Type 1} → statement M
+follow-spec = tie.close (tie.spec count-requires seek-requires join-requires same-length returns)
