@@ -3,14 +3,15 @@ use Prim.Native.Nat.{ℕ, suc, _+_, _*_, _≤_, _<_}
 use mathlib.Core.Path.{_≡_, refl, sym, ap, _∙_}
 use mathlib.Core.Logic.{_≢_}
 use mathlib.Core.Bool.{Bool, true, false, cond}
-use mathlib.Core.List.{List}
+use mathlib.Core.List.{List, [], _∷_}
 use lib.Dec.{eqb, leb, ltb}
 use lib.ListN.{length, getD}
 use native.Mathlib.Omega.{arith}
 use borrow.Author.Tests.{lt-ltb, le-ltb, le-leb, lt-leb, eq-eqb, ne-eqb}
+use Rattle.model.specs.Nodes.{Node}
 use Rattle.model.specs.Arena.{State, encode, listOf}
 use Rattle.model.specs.Passes.{decode, Passes}
-use Rattle.model.specs.Calls.{Call, insertKey, Answer, answer, refusal, accepted, refused, allowanceOf, performed, answerTo, resultOf, row3, row4, row8}
+use Rattle.model.specs.Calls.{Call, insertKey, splitAt, Answer, answer, refusal, accepted, refused, allowanceOf, performed, answerTo, resultOf, row3, row4, row7, row8}
 use Rattle.arena.proofs.Places.{length-encode}
 use Rattle.checked.specs.Kept.{Kept}
 
@@ -80,6 +81,25 @@ module _ {w : List ℕ} (p : Passes w) where
     pub two-lists : b < length (decode w .lists) → a ≢ b → refusal (decode w) c ≡ later
     two-lists l n = e ∙ row3-passes (decode w) a _ la ∙ row3-passes (decode w) b _ l ∙ row4-passes a b later n
 
+  -- "7: split: the receiving list isn't empty", behind rows 3 and 4
+  module _ (c : Call) (a b rest : ℕ) (e : refusal (decode w) c ≡ row3 (decode w) a (row3 (decode w) b (row4 a b (row7 (decode w) b rest))))
+      (la : a < length (decode w .lists)) (lb : b < length (decode w .lists)) (ne : a ≢ b) where
+    pub not-empty : length (listOf (decode w) b) ≢ 0 → Kept c w w (answer 7 0 0 0 0)
+    not-empty n = refuses c 7 (two-lists c a b _ e la lb ne ∙ (rw (ne-eqb (length (listOf (decode w) b)) 0 n) refl)) (λ z. omega (arith, z)) (λ z. omega (arith, z))
+
+    pub receives : length (listOf (decode w) b) ≡ 0 → refusal (decode w) c ≡ rest
+    receives n = two-lists c a b _ e la lb ne ∙ (rw (eq-eqb (length (listOf (decode w) b)) 0 n) refl)
+
+  -- "8: .. split at more than the length"
+  module _ (a b i : ℕ) (la : a < length (decode w .lists)) (lb : b < length (decode w .lists)) (ne : a ≢ b) (z : length (listOf (decode w) b) ≡ 0) where
+    pub past-split : length (listOf (decode w) a) < i → Kept (splitAt a b i) w w (answer 8 0 0 0 0)
+    past-split l =
+        refuses (splitAt a b i) 8 (receives (splitAt a b i) a b _ refl la lb ne z ∙ (rw (lt-leb i (length (listOf (decode w) a)) l) refl)) (λ z. omega (arith, z))
+        (λ z. omega (arith, z))
+
+    pub splits : i ≤ length (listOf (decode w) a) → refusal (decode w) (splitAt a b i) ≡ 0
+    splits l = receives (splitAt a b i) a b _ refl la lb ne z ∙ (rw (le-leb i (length (listOf (decode w) a)) l) refl)
+
   pub accepts : (c : Call) {u : List ℕ} {r : Answer} → refusal (decode w) c ≡ 0 → r ≡ accepted (decode w) c → u ≡ encode (performed (decode w) c) → Kept c w u r
   accepts c e a b = record { answered = rw (eq-eqb (refusal (decode w) c) 0 e) a; left = rw (eq-eqb (refusal (decode w) c) 0 e) b }
 
@@ -89,6 +109,10 @@ module _ {w : List ℕ} (p : Passes w) where
     answered = a;
     left = p .words ∙ ap encode (sym (ap (λ (S : State). cond (eqb (refusal (decode w) c) 0) S (decode w)) e ∙ same-either (eqb (refusal (decode w) c) 0) (decode w)));
   }
+
+pub no-nodes : (xs : List Node) → length xs ≡ 0 → xs ≡ []
+no-nodes [] e = refl
+no-nodes (x ∷ xs) e = absurd (omega (arith, e))
 
 -- ---- the header ----
 pub header-lists : (w : List ℕ) → Passes w → getD w 2 0 ≡ length (decode w .lists)

@@ -1,6 +1,6 @@
 // The calls that change one list: insert, remove by key, remove at an index, levelling.
 ghost use Rattle.model.specs.Passes.{Passes};
-ghost use Rattle.model.specs.Calls.{insertKey, removeKey, removeIndex};
+ghost use Rattle.model.specs.Calls.{insertKey, removeKey, removeIndex, level};
 ghost use Rattle.checked.specs.Answers.{keyTold, plainTold};
 ghost use Rattle.checked.specs.Kept.{Kept};
 use super::KeyAnswer;
@@ -53,4 +53,15 @@ pub fn remove_at(w: &mut [u32], list: Slot, i: Index) -> KeyAnswer
         return KeyAnswer::Refused(Refusal::PastEnd);
     }
     KeyAnswer::Is(insert_remove::remove_at(w, m, list, i))
+}
+
+pub fn level(w: &mut [u32], list: Slot) -> PlainAnswer
+    requires { ⌜ Passes (now w) ⌝ }
+    ensures { λ r. ⌜ Kept (level (list .0)) (now (w .entry)) (now (w .exit)) (plainTold r) ⌝ }
+{
+    if super::lists(w) <= list.0 {
+        return PlainAnswer::Refused(Refusal::NoList);
+    }
+    levelling::level(w, super::levels(w), list);
+    PlainAnswer::Accepted
 }

@@ -1,11 +1,18 @@
 // Every call on an arena that has passed the check: the later refusals in document 01's order, then one core function.
 mod changing;
+mod cutting;
 mod numbers;
 mod reading;
 
 pub use changing::insert;
+pub use changing::level;
 pub use changing::remove_at;
 pub use changing::remove_key;
+pub use cutting::append;
+pub use cutting::clear;
+pub use cutting::split_at;
+pub use cutting::split_key;
+pub use cutting::truncate;
 pub use numbers::Numbers;
 pub use numbers::of_key;
 pub use numbers::of_plain;
