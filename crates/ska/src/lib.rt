@@ -1,7 +1,7 @@
 // The ordered list's calls for users: any words, any arguments, nothing required. Each call on an arena checks it and then acts on it.
 mod changing;
+mod cutting;
 mod reading;
-mod structural;
 
 pub use arena::Index;
 pub use arena::Slot;
@@ -13,16 +13,16 @@ pub use checked::KeyAnswer;
 pub use checked::PlainAnswer;
 pub use checked::Refusal;
 pub use checked::SearchAnswer;
+pub use cutting::append;
+pub use cutting::clear;
+pub use cutting::split_at;
+pub use cutting::split_key;
+pub use cutting::truncate;
 pub use link::Distance;
 pub use reading::middle;
 pub use reading::read;
 pub use reading::search;
 pub use setup::Setup;
-pub use structural::append;
-pub use structural::clear;
-pub use structural::split_at;
-pub use structural::split_key;
-pub use structural::truncate;
 ghost use mathlib.Core.Path.{_≡_};
 ghost use Rattle.model.specs.Calls.{CheckPromise, SetUpPromise};
 ghost use Rattle.setup.specs.Bare.{numberOf};
