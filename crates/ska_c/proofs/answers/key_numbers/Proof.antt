@@ -1,29 +1,26 @@
+-- `ska_c::answers::key_numbers` meets its contract: each arm gives the numbers of its case.
+use Prim.Native.Nat.{ℕ}
+use mathlib.Core.Path.{ap, sym, _∙_}
+use Rattle.model.specs.Calls.{answer}
+use Rattle.checked.specs.Answers.{keyTold}
 use borrow.Author.Needs.{needs}
 use Rattle.ska_c.proofs.answers.key_numbers.Statement.{statement}
 use Rattle.ska_c.proofs.answers.key_numbers.Tie as tie
-use Rattle.ska_c.proofs.answers.key_numbers.Reads as reads
-use Rattle.ska_c.proofs.answers.key_numbers.Lts as lts
-use Rattle.checked.proofs.refusal_number.Reads as refusal-number-reads
 
--- src/answers.rt:60:23
 enum-known-a : tie.Need-enum-known-a
 enum-known-a c = search needs
 
--- src/answers.rt:61:28
 enum-known-a-2 : tie.Need-enum-known-a-2
 enum-known-a-2 c = search needs
 
--- src/answers.rt:62:21
 refusal-number-requires : tie.Need-refusal-number-requires
 refusal-number-requires c κs = search needs
 
--- src/answers.rt:56:1
 returns : tie.Need-returns
-returns c = ?
+returns c = ap keyTold (sym (c .before .a .given .1))
 
--- src/answers.rt:56:1
 returns-2 : tie.Need-returns-2
-returns-2 c = ?
+returns-2 c = ap (λ (n : ℕ). answer n 0 0 0 0) (c .refusal-number .ensures) ∙ ap keyTold (sym (c .before .before .a2 .given .1))
 
 pub key-numbers-spec : {M : Type 1} → statement M
 key-numbers-spec =

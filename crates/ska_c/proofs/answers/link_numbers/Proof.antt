@@ -1,40 +1,33 @@
+-- `ska_c::answers::link_numbers` meets its contract: each arm gives the numbers of its case.
+use mathlib.Core.Path.{ap, sym}
+use Rattle.link.specs.Distances.{told}
 use borrow.Author.Needs.{needs}
 use Rattle.ska_c.proofs.answers.link_numbers.Statement.{statement}
 use Rattle.ska_c.proofs.answers.link_numbers.Tie as tie
-use Rattle.ska_c.proofs.answers.link_numbers.Reads as reads
-use Rattle.ska_c.proofs.answers.link_numbers.Lts as lts
 
--- src/answers.rt:105:22
 enum-known-a : tie.Need-enum-known-a
 enum-known-a c = search needs
 
--- src/answers.rt:109:30
 enum-told : tie.Need-enum-told
 enum-told c = search needs
 
--- src/answers.rt:113:31
 enum-told-2 : tie.Need-enum-told-2
 enum-told-2 c = search needs
 
--- src/answers.rt:117:32
 enum-told-3 : tie.Need-enum-told-3
 enum-told-3 c = search needs
 
--- src/answers.rt:101:1
 returns : tie.Need-returns
-returns c = ?
+returns c = ap told (sym (c .before .a .given .1))
 
--- src/answers.rt:101:1
 returns-2 : tie.Need-returns-2
-returns-2 c = ?
+returns-2 c = ap told (sym (c .enum-told .given .1))
 
--- src/answers.rt:101:1
 returns-3 : tie.Need-returns-3
-returns-3 c = ?
+returns-3 c = ap told (sym (c .enum-told2 .given .1))
 
--- src/answers.rt:101:1
 returns-4 : tie.Need-returns-4
-returns-4 c = ?
+returns-4 c = ap told (sym (c .enum-told3 .given .1))
 
 pub link-numbers-spec : {M : Type 1} → statement M
 link-numbers-spec =

@@ -1,29 +1,26 @@
+-- `ska_c::answers::plain_number` meets its contract: each arm gives the number of its case.
+use Prim.Native.Nat.{ℕ}
+use mathlib.Core.Path.{ap, sym, _∙_}
+use Rattle.model.specs.Calls.{answer}
+use Rattle.checked.specs.Answers.{plainTold}
 use borrow.Author.Needs.{needs}
 use Rattle.ska_c.proofs.answers.plain_number.Statement.{statement}
 use Rattle.ska_c.proofs.answers.plain_number.Tie as tie
-use Rattle.ska_c.proofs.answers.plain_number.Reads as reads
-use Rattle.ska_c.proofs.answers.plain_number.Lts as lts
-use Rattle.checked.proofs.refusal_number.Reads as refusal-number-reads
 
--- src/answers.rt:51:34
 enum-told : tie.Need-enum-told
 enum-told c = search needs
 
--- src/answers.rt:52:30
 enum-known-a : tie.Need-enum-known-a
 enum-known-a c = search needs
 
--- src/answers.rt:52:36
 refusal-number-requires : tie.Need-refusal-number-requires
 refusal-number-requires c κs = search needs
 
--- src/answers.rt:47:1
 returns : tie.Need-returns
 returns c = search needs
 
--- src/answers.rt:47:1
 returns-2 : tie.Need-returns-2
-returns-2 c = ?
+returns-2 c = ap (λ (n : ℕ). answer n 0 0 0 0) (c .refusal-number .ensures) ∙ ap plainTold (sym (c .before .before .a .given .1))
 
 pub plain-number-spec : {M : Type 1} → statement M
 plain-number-spec =

@@ -1,63 +1,50 @@
+-- `ska_c::answers::search_numbers` meets its contract: each arm gives the numbers of its case.
+use Prim.Native.Nat.{ℕ}
+use mathlib.Core.Path.{ap, sym, _∙_}
+use Rattle.model.specs.Calls.{answer}
+use Rattle.checked.specs.Answers.{searchTold}
 use borrow.Author.Needs.{needs}
 use Rattle.ska_c.proofs.answers.search_numbers.Statement.{statement}
 use Rattle.ska_c.proofs.answers.search_numbers.Tie as tie
-use Rattle.ska_c.proofs.answers.search_numbers.Reads as reads
-use Rattle.ska_c.proofs.answers.search_numbers.Lts as lts
-use Rattle.checked.proofs.refusal_number.Reads as refusal-number-reads
-use Rattle.ska_c.proofs.answers.refused.Reads as refused-reads
-use Rattle.ska_c.proofs.answers.walked.Reads as walked-reads
 
--- src/answers.rt:94:29
 enum-known-a : tie.Need-enum-known-a
 enum-known-a c = search needs
 
--- src/answers.rt:94:38
 walked-requires : tie.Need-walked-requires
 walked-requires c κs = search needs
 
--- src/answers.rt:95:31
 enum-known-a-2 : tie.Need-enum-known-a-2
 enum-known-a-2 c = search needs
 
--- src/answers.rt:95:40
 walked-requires-2 : tie.Need-walked-requires-2
 walked-requires-2 c κs = search needs
 
--- src/answers.rt:96:30
 enum-known-a-3 : tie.Need-enum-known-a-3
 enum-known-a-3 c = search needs
 
--- src/answers.rt:96:36
 refused-requires : tie.Need-refused-requires
 refused-requires c κs = search needs
 
--- src/answers.rt:97:31
 enum-known-a-4 : tie.Need-enum-known-a-4
 enum-known-a-4 c = search needs
 
--- src/answers.rt:97:45
 refusal-number-requires : tie.Need-refusal-number-requires
 refusal-number-requires c κs = search needs
 
--- src/answers.rt:97:37
 refused-requires-2 : tie.Need-refused-requires-2
 refused-requires-2 c κs = search needs
 
--- src/answers.rt:90:1
 returns : tie.Need-returns
-returns c = ?
+returns c = c .walked .ensures ∙ ap searchTold (sym (c .before .before .a .given .1))
 
--- src/answers.rt:90:1
 returns-2 : tie.Need-returns-2
-returns-2 c = ?
+returns-2 c = c .walked2 .ensures ∙ ap searchTold (sym (c .before .before .a2 .given .1))
 
--- src/answers.rt:90:1
 returns-3 : tie.Need-returns-3
-returns-3 c = ?
+returns-3 c = c .refused .ensures ∙ ap searchTold (sym (c .before .before .a3 .given .1))
 
--- src/answers.rt:90:1
 returns-4 : tie.Need-returns-4
-returns-4 c = ?
+returns-4 c = c .refused2 .ensures ∙ ap (λ (n : ℕ). answer n 0 0 0 0) (c .before .refusal-number .ensures) ∙ ap searchTold (sym (c .before .before .before .a4 .given .1))
 
 pub search-numbers-spec : {M : Type 1} → statement M
 search-numbers-spec =
