@@ -1,3 +1,4 @@
 pub mod Places
 pub mod Cells
 pub mod Relink
+pub mod Lengths

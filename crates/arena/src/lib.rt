@@ -1,6 +1,6 @@
 // Module 2 of document 01: slots, ranks and indexes, and the words of an arena by slot and column.
 ghost use mathlib.Core.Path.{_≡_};
-ghost use Prim.Native.Nat.{_+_, _≤_, _<_};
+ghost use Prim.Native.Nat.{_+_, _*_, _≤_, _<_};
 ghost use lib.ListN.{length, getD, set};
 ghost use Rattle.model.specs.Cells.{Cell, cellAt, putAt};
 
@@ -66,6 +66,11 @@ impl Rank {
     }
 }
 
+// Words 0 and 1 of every arena.
+pub const MARK: u32 = 4279123;
+
+pub const VERSION: u32 = 1;
+
 pub fn wide(x: u32) -> usize
     ensures { λ r. ⌜ r ≡ x ⌝ }
 {
@@ -79,7 +84,23 @@ pub fn narrow(x: usize) -> u32
     x as u32
 }
 
-// The word in column c of slot s, in an arena of m levels.
+// Where the record of slot s begins, in an arena of m levels.
+pub fn place(m: usize, s: Slot) -> usize
+    requires { ⌜ m ≤ 16 ⌝ }
+    ensures { λ r. ⌜ r ≡ 8 + s .0 * (4 + 2 * m) ⌝ }
+{
+    let i = s.0 as usize;
+    8 + i * (4 + 2 * m)
+}
+
+pub fn word(w: &[u32], at: usize) -> u32
+    requires { ⌜ at < length (now w) ⌝ }
+    ensures { λ r. ⌜ r ≡ getD (now (w .entry)) at 0 ⌝ }
+{
+    w[at]
+}
+
+// The word in column c of slot s.
 pub fn cell(w: &[u32], m: usize, s: Slot, c: usize) -> u32
     requires { ⌜ Cell (now w) m (s .0) c ⌝ }
     ensures { λ r. ⌜ r ≡ cellAt m (now (w .entry)) (s .0) c ⌝ }
@@ -118,4 +139,14 @@ pub fn put_header(w: &mut [u32], i: usize, v: u32)
     ensures { λ _. ⌜ now (w .exit) ≡ set (now (w .entry)) i v ⌝ }
 {
     w[i] = v;
+}
+
+// The length of an arena of l lists, m levels and c nodes.
+pub fn size(l: u32, m: u32, c: u32) -> usize
+    requires { ⌜ (l ≤ 16) × (m ≤ 16) × (c ≤ 65535) ⌝ }
+    ensures { λ r. ⌜ r ≡ 8 + (l + c) * (4 + 2 * m) ⌝ }
+{
+    let slots = wide(l + c);
+    let width = 4 + 2 * wide(m);
+    8 + slots * width
 }

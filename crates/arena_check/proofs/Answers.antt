@@ -2,7 +2,7 @@
 use mathlib.Core.Path.{_≡_}
 use mathlib.Core.Bool.{Bool, true, false}
 use lib.Dec.{T}
-use Rattle.arena_check.specs.Answers.{Says}
+use Rattle.arena.specs.Says.{Says}
 
 pub yes : {b : Bool} {P : Type 0} → Says b P → b ≡ true → P
 yes {b} h e = h .sound (rw e tt)

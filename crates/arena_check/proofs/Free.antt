@@ -8,7 +8,7 @@ use native.Mathlib.Omega.{arith}
 use Rattle.model.specs.Cells.{cellAt}
 use Rattle.model.specs.Nodes.{N}
 use Rattle.arena_check.specs.declared.Dims.{Dims}
-use Rattle.arena_check.specs.Answers.{Says}
+use Rattle.arena.specs.Says.{Says}
 use Rattle.arena_check.specs.Sizes.{Within}
 use Rattle.arena_check.specs.Free.{AbsentFrom, FreeNode, FreeFrom}
 use Rattle.arena_check.proofs.Answers.{yes, no, say-yes, say-no}

@@ -9,7 +9,8 @@ use Rattle.model.specs.Cells.{cellAt}
 use Rattle.model.specs.Nodes.{N}
 use Rattle.model.proofs.Tests.{Test, hit, miss, test}
 use Rattle.arena_check.specs.declared.Dims.{Dims}
-use Rattle.arena_check.specs.Answers.{Says, Below}
+use Rattle.arena.specs.Says.{Says}
+use Rattle.arena_check.specs.Answers.{Below}
 use Rattle.arena_check.specs.Sizes.{lengths, Differ}
 use Rattle.arena_check.proofs.Answers.{say-yes, say-no}
 use Rattle.arena_check.proofs.Levels.{Upto, upto-more}

@@ -12,7 +12,8 @@ use Rattle.model.specs.Nodes.{N}
 use Rattle.model.specs.Passes.{Absent}
 use Rattle.model.proofs.Tests.{Test, hit, miss, test}
 use Rattle.arena_check.specs.declared.Dims.{Dims}
-use Rattle.arena_check.specs.Answers.{Says, Below}
+use Rattle.arena.specs.Says.{Says}
+use Rattle.arena_check.specs.Answers.{Below}
 use Rattle.arena_check.specs.Free.{AbsentFrom}
 use Rattle.arena_check.specs.Walked.{Spans, Meets, Closes, Owners, filled}
 use Rattle.arena_check.proofs.Answers.{yes, no, say-yes, say-no}

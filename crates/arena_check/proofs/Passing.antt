@@ -18,7 +18,8 @@ use Rattle.model.proofs.Counting.{all-slots}
 use Rattle.model.proofs.Records.{placed}
 use Rattle.model.proofs.Tests.{Test, hit, miss, test}
 use Rattle.arena_check.specs.declared.Dims.{Dims}
-use Rattle.arena_check.specs.Answers.{Says, Below}
+use Rattle.arena.specs.Says.{Says}
+use Rattle.arena_check.specs.Answers.{Below}
 use Rattle.arena_check.specs.Sizes.{dimsOf, Within, lengths, Differ}
 use Rattle.arena_check.specs.Free.{AbsentFrom}
 use Rattle.arena_check.specs.Whole.{WholeOf, Whole}

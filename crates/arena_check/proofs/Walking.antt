@@ -10,7 +10,7 @@ use Rattle.model.specs.Cells.{cellAt}
 use Rattle.model.specs.Nodes.{N}
 use Rattle.arena_check.specs.declared.Dims.{Dims}
 use Rattle.arena_check.specs.declared.walks.Pending.{Pending}
-use Rattle.arena_check.specs.Answers.{Says}
+use Rattle.arena.specs.Says.{Says}
 use Rattle.arena_check.specs.Sizes.{Within, Shape}
 use Rattle.arena_check.specs.Free.{AbsentFrom}
 use Rattle.arena_check.specs.Walked.{Closes, Loose, Owners, NodeOk, Taken, Walked, WalkOk, ListOk, filled}

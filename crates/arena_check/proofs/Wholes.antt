@@ -5,7 +5,8 @@ use mathlib.Core.Bool.{Bool, true, false}
 use mathlib.Core.List.{List}
 use lib.ListN.{getD}
 use Rattle.arena_check.specs.declared.Dims.{Dims}
-use Rattle.arena_check.specs.Answers.{Says, Below}
+use Rattle.arena.specs.Says.{Says}
+use Rattle.arena_check.specs.Answers.{Below}
 use Rattle.arena_check.specs.Sizes.{dimsOf, Shape, Headed, lengths, Differ}
 use Rattle.arena_check.specs.Free.{FreeFrom}
 use Rattle.arena_check.specs.Walked.{ListOk}

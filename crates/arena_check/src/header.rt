@@ -2,21 +2,11 @@
 ghost use mathlib.Core.Path.{_≡_};
 ghost use Prim.Native.Nat.{_+_, _*_, _≤_};
 ghost use lib.ListN.{getD};
-ghost use Rattle.arena_check.specs.Answers.{Says};
+ghost use Rattle.arena.specs.Says.{Says};
 ghost use Rattle.arena_check.specs.Sizes.{dimsOf, Shape, Headed, lengths};
 use super::Dims;
 use super::records::word;
 use arena::Slot;
-
-// The length of an arena.
-fn size(l: u32, m: u32, c: u32) -> usize
-    requires { ⌜ (l ≤ 16) × (m ≤ 16) × (c ≤ 65535) ⌝ }
-    ensures { λ r. ⌜ r ≡ 8 + (l + c) * (4 + 2 * m) ⌝ }
-{
-    let n = (l + c) as usize;
-    let k = 4 + 2 * (m as usize);
-    8 + n * k
-}
 
 // Whether the words have the header of an arena of their length.
 pub fn header_ok(w: &[u32]) -> bool
@@ -25,10 +15,10 @@ pub fn header_ok(w: &[u32]) -> bool
     if w.len() < 8 {
         return false;
     }
-    if w[0] != 4279123 {
+    if w[0] != arena::MARK {
         return false;
     }
-    if w[1] != 1 {
+    if w[1] != arena::VERSION {
         return false;
     }
     let l = w[2];
@@ -55,7 +45,7 @@ pub fn header_ok(w: &[u32]) -> bool
     if w[7] != 0 {
         return false;
     }
-    if w.len() != size(l, m, c) {
+    if w.len() != arena::size(l, m, c) {
         return false;
     }
     true

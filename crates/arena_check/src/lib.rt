@@ -1,7 +1,7 @@
 // The check of document 01: whether any words are an arena that passes. It goes once over the records, by the chains that they
 // make, and needs no memory but locals: docs/CHECK.md says how.
 ghost use Rattle.model.specs.Calls.{CheckPromise};
-ghost use Rattle.arena_check.specs.Answers.{Says};
+ghost use Rattle.arena.specs.Says.{Says};
 ghost use Rattle.arena_check.specs.Whole.{Whole};
 
 mod header;

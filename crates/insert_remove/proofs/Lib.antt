@@ -1,4 +1,3 @@
-pub mod Distances
 pub mod Stores
 pub mod Spanning
 pub mod Columns

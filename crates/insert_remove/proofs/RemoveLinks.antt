@@ -29,7 +29,7 @@ use Rattle.arena.specs.Owners.{Before}
 use Rattle.arena.proofs.Relink.{Relinked, relink-start, old-far-is, turned}
 use Rattle.insert_remove.specs.Changes.{Leaves, Rehung}
 use Rattle.insert_remove.specs.Levels.{Level, LevelOut}
-use Rattle.insert_remove.proofs.Distances.{farther-is}
+use Rattle.spans.proofs.Distances.{farther-is}
 use Rattle.insert_remove.proofs.InsertLinks.{free-link, distance-le, past-le, further-past}
 use Rattle.insert_remove.proofs.Spanning.{lies, spanned}
 

@@ -7,7 +7,11 @@ use arena::cell;
 use arena::put;
 use arena::put2;
 use arena::wide;
-use link::Distance;
+use spans::farther;
+use spans::longer;
+use spans::made;
+use spans::nearer;
+use spans::shorter;
 ghost use mathlib.Core.Path.{_≡_};
 ghost use mathlib.Core.Bool.{cond};
 ghost use Prim.Native.Nat.{suc, _+_, _-_, _<_};
@@ -20,58 +24,6 @@ ghost use Rattle.model.specs.Passes.{decode, nodes};
 ghost use Rattle.arena.specs.Owners.{Leads};
 ghost use Rattle.insert_remove.specs.Changes.{insertedAt, Enters, Leaves, Rehung};
 ghost use Rattle.insert_remove.specs.Levels.{Level, LevelIn, LevelOut};
-
-// A distance as module 1 makes it; what it refuses, 0, is an absent link's.
-fn made(d: u32) -> u32
-    ensures { λ r. ⌜ r ≡ d ⌝ }
-{
-    let Distance::Is(x) = link::make(d) else {
-        return 0;
-    };
-    x
-}
-
-// A link that spans a node that comes; an absent one stays absent.
-fn longer(far: u32) -> u32
-    requires { ⌜ far < 4294967295 ⌝ }
-    ensures { λ r. ⌜ r ≡ further far ⌝ }
-{
-    let Distance::Is(x) = link::raise(far) else {
-        return 0;
-    };
-    x
-}
-
-// A link that spans a node that goes.
-fn shorter(far: u32) -> u32
-    ensures { λ r. ⌜ r ≡ far - 1 ⌝ }
-{
-    let Distance::Is(x) = link::lower(far) else {
-        return 0;
-    };
-    x
-}
-
-// The distance of a link whose owner is `by` ranks further on.
-fn nearer(far: u32, by: u32) -> u32
-    ensures { λ r. ⌜ r ≡ far - by ⌝ }
-{
-    if far <= by {
-        return 0;
-    }
-    made(far - by)
-}
-
-// The distance of a link whose owner is `by` ranks further back.
-fn farther(far: u32, by: u32) -> u32
-    requires { ⌜ far + by < 4294967296 ⌝ }
-    ensures { λ r. ⌜ r ≡ cond (eqb far 0) 0 (far + by) ⌝ }
-{
-    if far == 0 {
-        return 0;
-    }
-    made(far + by)
-}
 
 // Level l, where a node of height h goes in `back` ranks behind the precursor s.
 fn insert_level(w: &mut [u32], m: usize, l: usize, h: usize, s: Slot, o: Slot, back: u32)

@@ -17,7 +17,8 @@ use Rattle.model.specs.Calls.{Room, SetUpPromise}
 use Rattle.model.proofs.Tests.{Test, hit, miss, test, Same, same, other, same?}
 use Rattle.arena.specs.Mixed.{Mix}
 use Rattle.arena.proofs.Cells.{cell-same, cell-other, put-size, mix-end}
-use Rattle.setup.specs.Bare.{bareWords, Says, Inside, Written, Filled, HeaderSet}
+use Rattle.arena.specs.Says.{Says}
+use Rattle.setup.specs.Bare.{bareWords, Inside, Written, Filled, HeaderSet}
 
 -- the first k words of the record of slot s are R's
 pub record Storing (M : ℕ) (before : List ℕ) (s : ℕ) (R : List ℕ) (k : ℕ) (after : List ℕ) : Type 0 where

@@ -5,7 +5,6 @@ use mathlib.Core.Bool.{cond}
 use mathlib.Core.List.{List, [], _∷_}
 use lib.Dec.{ltb, eqb}
 use lib.ListN.{length, getD, set, replicate, length-replicate}
-use native.Mathlib.Nat.{mul-le-mul}
 use native.Mathlib.Omega.{arith}
 use borrow.Author.Tests.{lt-ltb, le-ltb, eq-eqb, ne-eqb}
 use Rattle.model.specs.Nodes.{Node, N}
@@ -98,7 +97,3 @@ up-length L (suc C) = ap suc (up-length (suc L) C)
 
 pub header-new : (L M C : ℕ) → 1 ≤ C → mark ∷ version ∷ L ∷ M ∷ C ∷ L ∷ C ∷ 0 ∷ [] ≡ header (setUp L M C)
 header-new L M C l = rw (length-replicate {0} {A = List Node} L [], up-first L C l, up-length L C)
-
--- an arena's length is small
-pub few : (l m c : ℕ) → (l ≤ 16) × (m ≤ 16) × (c ≤ 65535) → (l + c) * (4 + 2 * m) ≤ 65551 * 36
-few l m c h = mul-le-mul {n₂ = 65551} {m₂ = 36} (omega (arith, h .0, h .2)) (omega (arith, h .1))

@@ -2,9 +2,9 @@
 use Prim.Native.Nat.{ℕ, _+_, _-_, _*_, _%_, _≤_, _<_}
 use mathlib.Core.Path.{_≡_}
 use mathlib.Core.Logic.{_≢_}
-use mathlib.Core.Bool.{Bool, cond}
+use mathlib.Core.Bool.{cond}
 use mathlib.Core.List.{List, _∷_}
-use lib.Dec.{T, eqb}
+use lib.Dec.{eqb}
 use lib.ListN.{length, take, drop, getD}
 use Rattle.model.specs.Nodes.{N}
 use Rattle.model.specs.Arena.{absent, recordOf, setUp}
@@ -16,11 +16,6 @@ use Rattle.setup.specs.declared.Setup.the-variants.{Done, Wrong}
 abbrev pub numberOf : Setup → ℕ
 numberOf Done = 0
 numberOf Wrong = 2
-
--- The answer b is yes exactly when P.
-pub record Says (b : Bool) (P : Type 0) : Type 0 where
-  pub sound : T b → P
-  pub complete : P → T b
 
 -- A record whose links are all absent, and its word in column c.
 abbrev pub bareWords : ℕ → ℕ → ℕ → ℕ → ℕ → List ℕ

@@ -5,12 +5,9 @@ ghost use lib.ListN.{length, take};
 ghost use Rattle.model.specs.Arena.{header, encode, setUp, recordOf};
 ghost use Rattle.model.specs.Passes.{Ranges};
 ghost use Rattle.model.specs.Calls.{Room, SetUpPromise};
-ghost use Rattle.setup.specs.Bare.{bareWord, bareWords, Says, Inside, Written, Filled, HeaderSet, numberOf};
+ghost use Rattle.arena.specs.Says.{Says};
+ghost use Rattle.setup.specs.Bare.{bareWord, bareWords, Inside, Written, Filled, HeaderSet, numberOf};
 use arena::Slot;
-
-const MARK: u32 = 4279123;
-
-const VERSION: u32 = 1;
 
 pub enum Setup {
     Done,
@@ -105,24 +102,14 @@ fn write_header(w: &mut [u32], l: u32, m: u32, c: u32)
     requires { ⌜ 1 ≤ c ⌝ }
     ensures { λ _. ⌜ HeaderSet (now (w .entry)) (header (setUp l m c)) (now (w .exit)) ⌝ }
 {
-    w[0] = MARK;
-    w[1] = VERSION;
+    w[0] = arena::MARK;
+    w[1] = arena::VERSION;
     w[2] = l;
     w[3] = m;
     w[4] = c;
     w[5] = l;
     w[6] = c;
     w[7] = 0;
-}
-
-// The length of an arena.
-fn size(l: u32, m: u32, c: u32) -> usize
-    requires { ⌜ (l ≤ 16) × (m ≤ 16) × (c ≤ 65535) ⌝ }
-    ensures { λ r. ⌜ r ≡ 8 + (l + c) * (4 + 2 * m) ⌝ }
-{
-    let slots = arena::wide(l + c);
-    let width = 4 + 2 * arena::wide(m);
-    8 + slots * width
 }
 
 // Whether L, M, C and the slice's length are right; the ranges come before any product.
@@ -147,7 +134,7 @@ fn fits(l: u32, m: u32, c: u32, n: usize) -> bool
     if c > 65535 {
         return false;
     }
-    if n != size(l, m, c) {
+    if n != arena::size(l, m, c) {
         return false;
     }
     true

@@ -26,7 +26,7 @@ use Rattle.model.proofs.Links.{past}
 use Rattle.model.proofs.Owners.{says-to, says-far}
 use Rattle.model.proofs.Splitting.{SplitLike, hung-split, not-b, b-S, b-T}
 use Rattle.model.proofs.Tests.{hit, miss, test}
-use Rattle.split_join.proofs.Distances.{farther-is}
+use Rattle.spans.proofs.Distances.{farther-is}
 use Rattle.split_join.proofs.LinkWords.{fourPuts, links-in, turned-both}
 
 take-all : (xs : List Node) → take (length xs) xs ≡ xs

@@ -1,4 +1,3 @@
-pub mod Distances
 pub mod LinkWords
 pub mod SplitTurn
 pub mod SplitHeads

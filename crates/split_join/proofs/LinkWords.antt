@@ -8,7 +8,7 @@ use native.Mathlib.Omega.{arith}
 use Rattle.model.specs.Nodes.{Node}
 use Rattle.model.specs.Links.{target, distance}
 use Rattle.model.specs.Arena.{State, recordOf, slots-of}
-use Rattle.model.specs.Cells.{Cell, putAt}
+use Rattle.model.specs.Cells.{putAt}
 use Rattle.split_join.specs.Cuts.{LinkIn}
 use Rattle.arena.proofs.Relink.{Relinked, cell-at, cell-o, turned}
 use Rattle.model.proofs.Hang.{Hung, Stage}

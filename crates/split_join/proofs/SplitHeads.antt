@@ -1,5 +1,5 @@
 -- A split after its links: the columns 3, 2, 1 and 0, one after the other, and the whole. Rests on SplitTurn.
-use Prim.Native.Nat.{ℕ, zero, suc, _+_, _-_, _*_, _≤_, _<_}
+use Prim.Native.Nat.{ℕ, _+_, _-_, _*_, _≤_, _<_}
 use mathlib.Core.Path.{_≡_, refl, sym, ap, _∙_}
 use mathlib.Core.Bool.{cond}
 use mathlib.Core.List.{List, append-nil}
@@ -16,7 +16,7 @@ use Rattle.model.specs.Passes.{decode, nodes}
 use Rattle.arena.specs.declared.Path.{Path}
 use Rattle.split_join.specs.Cuts.{Splits}
 use Rattle.arena.proofs.Cells.{skip-down}
-use Rattle.arena.proofs.Relink.{Relinked, Half, there, col, relink-end}
+use Rattle.arena.proofs.Relink.{Half, there, col, relink-end}
 use Rattle.model.proofs.Hang.{Stage, same-0, same-1, same-3, head-S, head-T}
 use Rattle.model.proofs.Owners.{says-next}
 use Rattle.model.proofs.Splitting.{not-b, b-S, b-T, last-slot-take, last-drop}

@@ -1,28 +1,26 @@
 -- The loop of `split_links`: below level l the links are as after the split. Rests on model's Splitting and arena's Relink.
-use Prim.Native.Nat.{ℕ, zero, suc, _+_, _-_, _*_, _≤_, _<_}
-use mathlib.Core.Path.{_≡_, refl, sym, ap, _∙_, subst}
-use mathlib.Core.Logic.{_≢_}
-use mathlib.Core.List.{List, [], _∷_, _++_}
+use Prim.Native.Nat.{ℕ, suc, _+_, _-_, _*_, _≤_, _<_}
+use mathlib.Core.Path.{_≡_, refl, sym, ap, _∙_}
+use mathlib.Core.List.{List, []}
 use lib.ListN.{length, take, drop, getD}
 use lib.Seq.{length-take-le}
 use native.Mathlib.Omega.{arith}
 use borrow.Author.Tests.{le-leb}
-use Rattle.arena.specs.Mixed.{Mix}
 use Rattle.arena.specs.declared.Path.{Path}
 use Rattle.arena.specs.Owners.{Leads}
-use Rattle.model.specs.Arena.{State, listOf, recordOf, slots-of}
+use Rattle.model.specs.Arena.{State, recordOf, slots-of}
 use Rattle.model.specs.Calls.{doSplit}
 use Rattle.model.specs.Cells.{cellAt}
-use Rattle.model.specs.Links.{target, distance}
+use Rattle.model.specs.Links.{distance}
 use Rattle.model.specs.Nodes.{Node, N, slotAt}
-use Rattle.model.specs.Passes.{decode, nodes, Sound, Passes, Sizes}
+use Rattle.model.specs.Passes.{decode, nodes}
 use Rattle.model.specs.Walks.{last}
 use Rattle.split_join.specs.Cuts.{LinkIn, Splits}
 use Rattle.split_join.proofs.LinkWords.{fourPuts, links-in, turned-both}
-use Rattle.arena.proofs.Relink.{Relinked, relink-start, there, un-past, old-to-is, old-far-is}
+use Rattle.arena.proofs.Relink.{Relinked, relink-start, un-past, old-to-is, old-far-is}
 use Rattle.model.proofs.Hang.{Hung, Stage, stage-is}
 use Rattle.model.proofs.Links.{past}
-use Rattle.model.proofs.Owners.{to, far, says-to, says-far}
+use Rattle.model.proofs.Owners.{says-to, says-far}
 use Rattle.model.proofs.Splitting.{SplitLike, hung-split, not-b, b-T, split-like, slot-take}
 use Rattle.model.proofs.Walk.{last-le}
 

@@ -4,7 +4,8 @@ use arena::Path;
 use arena::Slot;
 use arena::cell;
 use arena::put2;
-use link::Distance;
+use spans::farther;
+use spans::nearer;
 ghost use mathlib.Core.Path.{_≡_};
 ghost use mathlib.Core.Bool.{cond};
 ghost use Prim.Native.Nat.{_+_, _*_, _-_, _<_};
@@ -28,37 +29,6 @@ impl Link {
         target: 4294967295,
         distance: 0,
     };
-}
-
-// A distance as module 1 makes it; it refuses 0, which is an absent link's.
-fn made(d: u32) -> u32
-    ensures { λ r. ⌜ r ≡ d ⌝ }
-{
-    let Distance::Is(x) = link::make(d) else {
-        return 0;
-    };
-    x
-}
-
-// The distance of a link whose owner is `by` ranks further on; an absent link stays absent.
-fn nearer(far: u32, by: u32) -> u32
-    ensures { λ r. ⌜ r ≡ far - by ⌝ }
-{
-    if far <= by {
-        return 0;
-    }
-    made(far - by)
-}
-
-// The distance of a link whose owner is `by` ranks further back.
-fn farther(far: u32, by: u32) -> u32
-    requires { ⌜ far + by < 4294967296 ⌝ }
-    ensures { λ r. ⌜ r ≡ cond (eqb far 0) 0 (far + by) ⌝ }
-{
-    if far == 0 {
-        return 0;
-    }
-    made(far + by)
 }
 
 fn link_at(w: &[u32], m: usize, s: Slot, l: usize) -> Link

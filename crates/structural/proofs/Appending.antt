@@ -1,22 +1,22 @@
 -- Append's cases in document 01's order: of the nodes, and of the model that each step leaves. Rests on model's Composing and Keeps.
-use Prim.Native.Nat.{ℕ, zero, suc, _+_, _≤_, _<_}
+use Prim.Native.Nat.{ℕ, _+_, _≤_, _<_}
 use mathlib.Core.Path.{_≡_, refl, sym, ap, _∙_}
-use mathlib.Core.Logic.{_≢_}
 use mathlib.Core.List.{List, [], _∷_, _++_}
-use lib.ListN.{length, getD, set}
-use lib.Seq.{set-set, set-comm, set-getD}
+use lib.ListN.{length, set}
+use lib.Seq.{set-comm, set-getD}
 use native.Mathlib.Omega.{arith}
 use borrow.Author.Tests.{le-leb, lt-leb}
 use Rattle.model.specs.Nodes.{Node, keyAt, Sorted}
 use Rattle.model.specs.Lists.{lastKey, mergeIn, append}
-use Rattle.model.specs.Arena.{State, listOf, putList, encode}
+use Rattle.model.specs.Arena.{State, putList, encode}
 use Rattle.model.specs.Calls.{doSplit, doJoin, doAppend}
 use Rattle.model.specs.Passes.{decode, nodes}
-use Rattle.arena.specs.Owners.{Listed}
 use Rattle.split_join.specs.Cuts.{Joins}
 use Rattle.structural.specs.Pairs.{Two, doMerge}
 use Rattle.model.proofs.Composing.{before-step}
 use Rattle.model.proofs.Keeps.{sorted-join, sorted-list}
+use Rattle.model.proofs.Splitting.{withLists}
+use Rattle.structural.proofs.Heads.{empty-is}
 
 -- ---- the nodes ----
 nothing-to-add : (aa bb : List Node) → length bb ≡ 0 → append aa bb ≡ aa
@@ -75,16 +75,12 @@ module _ {w : List ℕ} {m a b : ℕ} (p : Two w m a b) where
   -- "b empty, nothing"
   pub unchanged : length B ≡ 0 → w ≡ encode (doAppend S a b)
   unchanged e =
-      let none : B ≡ [] = nil B e in
+      let none : B ≡ [] = empty-is B e in
       let same-b : set (S .lists) b [] ≡ S .lists = ap (set (S .lists) b) (sym none) ∙ set-getD (S .lists) b [] in
       let same-a : set (set (S .lists) a A) b [] ≡ S .lists = ap (λ (t : List (List Node)). set t b []) (set-getD (S .lists) a []) ∙ same-b in
       p .first .passes .words ∙ ap encode (
-      ap (λ (t : List (List Node)). record { levels = S .levels; room = S .room; lists = t; free = S .free }) (sym same-a) ∙ appended A (nothing-to-add A B e)
+      ap (withLists S) (sym same-a) ∙ appended A (nothing-to-add A B e)
       )
-    where
-      nil : (ys : List Node) → length ys ≡ 0 → ys ≡ []
-      nil [] q = refl
-      nil (y ∷ ys) q = absurd (omega arith)
 
   -- "a is empty"
   pub can-join-empty : 0 < length B → length A ≡ 0 → Joins w m a b
@@ -109,7 +105,7 @@ module _ {w : List ℕ} {m a b : ℕ} (p : Two w m a b) where
     preceded k l q =
         q ∙ ap encode (
         before-step S a b (p .first .list) (p .second .list) (p .apart)
-        ∙ ap (λ (t : List (List Node)). record { levels = S .levels; room = S .room; lists = t; free = S .free }) (set-comm (S .lists) b a [] (B ++ A) (λ e. p .apart (sym e)))
+        ∙ ap (withLists S) (set-comm (S .lists) b a [] (B ++ A) (λ e. p .apart (sym e)))
         ∙ appended (B ++ A) (precedes A B some-a some-b k l)
         )
 

@@ -1,5 +1,5 @@
 -- What the head of a list says, and the record of the node at an index. Rests on arena's Cells and model's Records.
-use Prim.Native.Nat.{ℕ, zero, suc, _+_, _*_, _-_, _≤_, _<_}
+use Prim.Native.Nat.{ℕ, suc, _+_, _-_, _<_}
 use mathlib.Core.Path.{_≡_, refl, sym, ap, _∙_}
 use mathlib.Core.List.{List, [], _∷_, _++_}
 use lib.ListN.{length, take, drop, getD}
@@ -15,6 +15,10 @@ use Rattle.arena.specs.Owners.{Listed}
 use Rattle.arena.proofs.Cells.{mix-start, cell-is}
 use Rattle.arena.proofs.Relink.{there}
 use Rattle.model.proofs.Records.{head-words, node-words, slot-of}
+
+pub empty-is : (ys : List Node) → length ys ≡ 0 → ys ≡ []
+empty-is [] e = refl
+empty-is (y ∷ ys) e = absurd (omega arith)
 
 last-at : (y : Node) (ys : List Node) → lastSlot (y ∷ ys) ≡ at (y ∷ ys) (length ys) .slot
 last-at y [] = refl
@@ -44,9 +48,6 @@ module _ {w : List ℕ} {m a : ℕ} (p : Listed w m a) where
 
   head-word : (c : ℕ) → c < 4 → cellAt m w a c ≡ getD (headWords (S .levels) xs) c 0
   head-word c k = word-is a c (omega (arith, p .list)) k ∙ ap (λ (R : List ℕ). getD R c 0) (head-words S a (p .list))
-
-  pub count-is : {n : ℕ} → n ≡ cellAt m w a 0 → n ≡ length xs
-  count-is e = e ∙ head-word 0 (omega arith)
 
   pub first-is : {s : ℕ} → s ≡ cellAt m w a 2 → 0 < length xs → s ≡ at xs 0 .slot
   first-is e l = e ∙ head-word 2 (omega arith) ∙ first xs l

@@ -1,12 +1,10 @@
 -- Words that one step leaves and the next step takes up: those of a sound model of the same sizes. Rests on model's EveryCall and Builds.
-use Prim.Native.Nat.{ℕ, _+_, _*_, _≤_, _<_}
+use Prim.Native.Nat.{ℕ, _+_}
 use mathlib.Core.Path.{_≡_, refl, sym, ap, _∙_}
-use mathlib.Core.Logic.{_≢_}
 use mathlib.Core.List.{List, [], _++_}
-use lib.ListN.{length, getD, set, length-set}
+use lib.ListN.{length, set, length-set}
 use lib.Seq.{getD-set-same, lt-length-set}
 use native.Mathlib.Omega.{arith}
-use Rattle.model.specs.Nodes.{Node}
 use Rattle.model.specs.Arena.{State, listOf, encode}
 use Rattle.model.specs.Calls.{doJoin, doSplit}
 use Rattle.model.specs.Passes.{decode, nodes, Sound, Passes}

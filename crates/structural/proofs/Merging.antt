@@ -1,12 +1,11 @@
 -- A merge, node by node: the first of b is removed and inserted in a, and what is left to merge leads to the same. Rests on model's Composing.
-use Prim.Native.Nat.{ℕ, zero, suc, _+_, _-_, _≤_, _<_}
+use Prim.Native.Nat.{ℕ, _-_, _≤_, _<_}
 use mathlib.Core.Path.{_≡_, refl, sym, ap, ap₂, _∙_}
-use mathlib.Core.Logic.{_≢_}
 use mathlib.Core.List.{List, [], _∷_}
-use lib.ListN.{length, take, drop, getD, set, length-set}
+use lib.ListN.{length, drop, set, length-set}
 use lib.Seq.{getD-set-same, getD-set-other, lt-length-set, set-set, set-comm, set-getD}
 use native.Mathlib.Omega.{arith}
-use Rattle.model.specs.Nodes.{Node, node, N, at, keyAt, slotAt, Low}
+use Rattle.model.specs.Nodes.{Node, at, keyAt, slotAt, Low}
 use Rattle.model.specs.Lists.{insert, removeAt, mergeIn}
 use Rattle.model.specs.Arena.{State, listOf, putList, encode}
 use Rattle.model.specs.Calls.{doInsert, doRemove}
@@ -15,10 +14,9 @@ use Rattle.arena.specs.Owners.{Listed}
 use Rattle.structural.specs.Pairs.{Two, doMerge, movedFirst}
 use Rattle.model.proofs.Composing.{merge-step}
 use Rattle.model.proofs.Keeps.{sound-remove, sound-insert, low-list}
+use Rattle.model.proofs.Splitting.{withLists}
+use Rattle.structural.proofs.Heads.{empty-is}
 use Rattle.structural.proofs.Leaving.{Left, left, still-listed}
-
-abbrev withLists : State → List (List Node) → State
-withLists S ls = record { levels = S .levels; room = S .room; lists = ls; free = S .free }
 
 first-of : (ys : List Node) → 0 < length ys → ys ≡ at ys 0 ∷ drop 1 ys
 first-of [] l = absurd (omega arith)
@@ -123,12 +121,8 @@ merge-turn g l e = record { two = still-two (g .two) l e; same = same-merge (g .
 pub merge-done : {w₀ : List ℕ} {m a b : ℕ} {w : List ℕ} → Merging w₀ m a b w → length (nodes w b) ≡ 0 → w ≡ encode (doMerge (decode w₀) a b)
 merge-done {w₀} {m} {a} {b} {w} g l = g .two .first .passes .words ∙ ap encode (sym none ∙ g .same)
   where
-    nil : (ys : List Node) → length ys ≡ 0 → ys ≡ []
-    nil [] q = refl
-    nil (y ∷ ys) q = absurd (omega arith)
-
     none : doMerge (decode w) a b ≡ decode w
     none =
-        let e = nil (nodes w b) l in
+        let e = empty-is (nodes w b) l in
         ap (λ (t : List Node). putList (putList (decode w) a (mergeIn t (nodes w a)) (decode w .free)) b [] (decode w .free)) e
         ∙ ap (withLists (decode w)) (ap (λ (t : List (List Node)). set t b []) (set-getD (decode w .lists) a []) ∙ ap (set (decode w .lists) b) (sym e) ∙ set-getD (decode w .lists) b [])

@@ -1,5 +1,5 @@
 -- Truncation: one removal after another at the same index, with the same precursors. Rests on Leaving and model's Keeps.
-use Prim.Native.Nat.{ℕ, zero, suc, _+_, _-_, _≤_, _<_}
+use Prim.Native.Nat.{ℕ, suc, _+_, _-_, _≤_, _<_}
 use mathlib.Core.Path.{_≡_, refl, sym, ap, ap₂, _∙_}
 use mathlib.Core.List.{List, [], _∷_, _++_, append-nil}
 use lib.ListN.{length, take, drop, getD, set, length-set, length-append, length-drop, drop-of-length-le, take-append-drop}
@@ -14,13 +14,11 @@ use Rattle.model.specs.Walks.{last}
 use Rattle.arena.specs.declared.Path.{Path}
 use Rattle.arena.specs.Owners.{Listed, Leads}
 use Rattle.insert_remove.specs.Changes.{Leaves}
+use Rattle.model.proofs.Inserting.{withBoth}
 use Rattle.model.proofs.Keeps.{sound-remove}
 use Rattle.model.proofs.Splitting.{slot-take}
 use Rattle.model.proofs.Walk.{last-le}
 use Rattle.structural.proofs.Leaving.{Left, left, still-listed}
-
-abbrev withBoth : State → List (List Node) → List ℕ → State
-withBoth S ls fs = record { levels = S .levels; room = S .room; lists = ls; free = fs }
 
 -- ---- the model ----
 trim-none : (S : State) (a n : ℕ) → length (listOf S a) ≤ n → doTruncate S a n ≡ S

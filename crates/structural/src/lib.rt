@@ -21,19 +21,20 @@ ghost use Rattle.arena.specs.Owners.{Listed, Leads};
 ghost use Rattle.split_join.specs.Cuts.{Splits, Joins};
 ghost use Rattle.structural.specs.Pairs.{Two, doMerge, movedFirst};
 
-fn count(w: &[u32], m: usize, list: Slot) -> u32
-    requires { ⌜ Listed (now w) m (list .0) ⌝ }
-    ensures { λ r. ⌜ r ≡ length (nodes (now (w .entry)) (list .0)) ⌝ }
-{
-    cell(w, m, list, 0)
-}
-
 fn first_key(w: &[u32], m: usize, list: Slot) -> u32
     requires { ⌜ Listed (now w) m (list .0) × (0 < length (nodes (now w) (list .0))) ⌝ }
     ensures { λ r. ⌜ r ≡ keyAt (nodes (now (w .entry)) (list .0)) 0 ⌝ }
 {
     let first = Slot(cell(w, m, list, 2));
     cell(w, m, first, 0)
+}
+
+fn first_height(w: &[u32], m: usize, list: Slot) -> u32
+    requires { ⌜ Listed (now w) m (list .0) × (0 < length (nodes (now w) (list .0))) ⌝ }
+    ensures { λ r. ⌜ r ≡ at (nodes (now (w .entry)) (list .0)) 0 .height ⌝ }
+{
+    let first = Slot(cell(w, m, list, 2));
+    cell(w, m, first, 1)
 }
 
 fn last_key(w: &[u32], m: usize, list: Slot) -> u32
@@ -51,7 +52,7 @@ fn trim(w: &mut [u32], m: usize, list: Slot, n: Index, path: Path)
     requires { ⌜ Leads (now w) m (list .0) (n .0) path ⌝ }
     ensures { λ _. ⌜ now (w .exit) ≡ encode (doTruncate (decode (now (w .entry))) (list .0) (n .0)) ⌝ }
 {
-    while n.0 < count(w, m, list) {
+    while n.0 < walk::length(w, m, list) {
         remove_after(w, m, list, n, path);
     }
 }
@@ -61,7 +62,7 @@ pub fn truncate(w: &mut [u32], m: usize, list: Slot, n: u32)
     requires { ⌜ Listed (now w) m (list .0) ⌝ }
     ensures { λ _. ⌜ now (w .exit) ≡ encode (doTruncate (decode (now (w .entry))) (list .0) n) ⌝ }
 {
-    if count(w, m, list) <= n {
+    if walk::length(w, m, list) <= n {
         return;
     }
     let path = walk::seek(w, m, list, Index(n));
@@ -92,7 +93,7 @@ fn follow(w: &mut [u32], m: usize, a: Slot, b: Slot)
     requires { ⌜ Joins (now w) m (a .0) (b .0) ⌝ }
     ensures { λ _. ⌜ now (w .exit) ≡ encode (doJoin (decode (now (w .entry))) (a .0) (b .0)) ⌝ }
 {
-    let n = count(w, m, a);
+    let n = walk::length(w, m, a);
     let path = walk::seek(w, m, a, Index(n));
     join(w, m, a, b, path);
 }
@@ -104,14 +105,6 @@ fn precede(w: &mut [u32], m: usize, a: Slot, b: Slot)
 {
     follow(w, m, b, a);
     split_at(w, m, b, a, Index(0));
-}
-
-fn first_height(w: &[u32], m: usize, list: Slot) -> u32
-    requires { ⌜ Listed (now w) m (list .0) × (0 < length (nodes (now w) (list .0))) ⌝ }
-    ensures { λ r. ⌜ r ≡ at (nodes (now (w .entry)) (list .0)) 0 .height ⌝ }
-{
-    let first = Slot(cell(w, m, list, 2));
-    cell(w, m, first, 1)
 }
 
 // Moves the first node of b to its place in a. The slot just freed is the first free one, so that the node keeps it.
@@ -129,7 +122,7 @@ fn merge(w: &mut [u32], m: usize, a: Slot, b: Slot)
     requires { ⌜ Two (now w) m (a .0) (b .0) ⌝ }
     ensures { λ _. ⌜ now (w .exit) ≡ encode (doMerge (decode (now (w .entry))) (a .0) (b .0)) ⌝ }
 {
-    while 0 < count(w, m, b) {
+    while 0 < walk::length(w, m, b) {
         move_first(w, m, a, b);
     }
 }
@@ -139,10 +132,10 @@ pub fn append(w: &mut [u32], m: usize, a: Slot, b: Slot)
     requires { ⌜ Two (now w) m (a .0) (b .0) ⌝ }
     ensures { λ _. ⌜ now (w .exit) ≡ encode (doAppend (decode (now (w .entry))) (a .0) (b .0)) ⌝ }
 {
-    if count(w, m, b) == 0 {
+    if walk::length(w, m, b) == 0 {
         return;
     }
-    if count(w, m, a) == 0 {
+    if walk::length(w, m, a) == 0 {
         follow(w, m, a, b);
         return;
     }

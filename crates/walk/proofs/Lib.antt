@@ -1,6 +1,6 @@
 pub mod Looks
 pub mod Seeking
 pub mod Ranked
-pub mod Turns
+pub mod Ahead
 pub mod Answering
 pub mod Tracing

@@ -17,7 +17,7 @@ use Rattle.model.proofs.Steps.{further-one, target-at}
 use Rattle.model.proofs.Counting.{list-few}
 use Rattle.arena.specs.Owners.{Owner, Listed}
 use Rattle.arena.proofs.Places.{word-rec, fits, slot-in, linked, link-to, link-far, key-word, length-word}
-use Rattle.walk.specs.Standing.{At}
+use Rattle.walk.specs.Standing.{At, Placed}
 
 -- a link goes to a node of its stage, within the list
 distance-tall : (h : ℕ) (ys : List Node) (d : ℕ) → distance h ys ≡ suc d → (d < length ys) × (h ≤ at ys d .height)
@@ -116,6 +116,31 @@ module _ {w : List ℕ} {m a i h s r : ℕ} (g : At w m a i h s r) where
   pub owner-key : (j : ℕ) → r ≡ suc j → cellAt m w s 0 ≡ keyAt (nodes w a) j
   owner-key j e =
       in-record 0 (omega arith) ∙ (rw (g .owner .slot-is, e) (key-word w (g .owner .passes) a (g .owner .list) j (omega (arith, g .owner .within))))
+
+-- ---- by the place where a record begins ----
+word-is : (w : List ℕ) {m s base v : ℕ} → Placed m s base → (c at : ℕ) → at ≡ base + c → v ≡ getD w at 0 → v ≡ cellAt m w s c
+unfolding cellAt
+word-is w p c at f g = g ∙ ap (λ (i : ℕ). getD w i 0) (omega (arith, p .is))
+
+pub key-read : (w : List ℕ) {m s base v : ℕ} → Placed m s base → v ≡ getD w base 0 → v ≡ cellAt m w s 0
+key-read w {base = base} p e = word-is w p 0 base (omega arith) e
+
+module _ {w : List ℕ} {m a i h s r base : ℕ} (g : At w m a i h s r) (p : Placed m s base) where
+  pub inside : (c at : ℕ) → at ≡ base + c → c < 4 + 2 * m → at < length w
+  inside c at f k = omega (arith, p .is, cell-here g c k .inside)
+
+  -- a level's link is in the record
+  pub column : (l : ℕ) → suc l ≡ h → 5 + 2 * l < 4 + 2 * m
+  column l e = omega (arith, g .owner .level, g .levels)
+
+  pub to-read : (l : ℕ) → suc l ≡ h → (at : ℕ) → at ≡ base + (4 + 2 * l) → {v : ℕ} → v ≡ getD w at 0 → v ≡ target h (drop r (nodes w a))
+  to-read l e at f q = word-is w p (4 + 2 * l) at f q ∙ to-word g l e
+
+  pub far-read : (l : ℕ) → suc l ≡ h → (at : ℕ) → at ≡ base + (5 + 2 * l) → {v : ℕ} → v ≡ getD w at 0 → v ≡ distance h (drop r (nodes w a))
+  far-read l e at f q = word-is w p (5 + 2 * l) at f q ∙ far-word g l e
+
+  pub next-read : {at : ℕ} → at ≡ base + 2 → {v : ℕ} → v ≡ getD w at 0 → v ≡ target 0 (drop r (nodes w a))
+  next-read {at} f q = word-is w p 2 at f q ∙ next-word g
 
 -- the head's first word is the length
 pub length-cell : {w : List ℕ} {m a : ℕ} → Listed w m a → cellAt m w a 0 ≡ length (nodes w a)

@@ -30,7 +30,7 @@ use Rattle.walk.specs.declared.Outcome.{Outcome}
 use Rattle.walk.specs.declared.Outcome.the-variants.{Found, Missing}
 use Rattle.walk.proofs.Looks.{Look, nothing, there, look, down-to}
 use Rattle.walk.proofs.Seeking.{at-head, sought}
-use Rattle.walk.proofs.Turns.{Ahead, ahead, key-none, key-first}
+use Rattle.walk.proofs.Ahead.{Ahead, ahead, key-none, key-first}
 
 pub in-order : (w : List ℕ) → Passes w → (a : ℕ) → Sorted (nodes w a)
 in-order w p a = each-get Sorted (decode w .lists) a tt (p .sound .sorted)

@@ -1,5 +1,5 @@
 -- Where a walk stands in words that pass, and where it stops. Rests on model's specs and on arena's `Owner`.
-use Prim.Native.Nat.{ℕ, _≤_}
+use Prim.Native.Nat.{ℕ, _+_, _*_, _≤_}
 use mathlib.Core.Path.{_≡_}
 use mathlib.Core.List.{List}
 use lib.ListN.{length, take}
@@ -13,6 +13,10 @@ pub record At (w : List ℕ) (m a i h s r : ℕ) : Type 0 where
   pub levels : m ≡ decode w .levels
   pub before : r ≤ i
   pub within : i ≤ length (nodes w a)
+
+-- The record of slot s begins at word `base`.
+pub record Placed (m s base : ℕ) : Type 0 where
+  pub is : base ≡ 8 + s * (4 + 2 * m)
 
 -- A walk by rank along stage h has stopped: slot s is the last owner of height h that is no further than rank i.
 pub record Sought (w : List ℕ) (m a i h s r : ℕ) : Type 0 where

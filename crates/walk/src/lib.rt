@@ -36,9 +36,10 @@ pub struct Reached {
     pub ended: Ended,
 }
 
-// A walk by key that may still make `left` comparisons.
+// A walk by key that may still make `left` comparisons. `base` is where the record of its slot begins.
 pub struct Visitor {
     pub slot: Slot,
+    pub base: usize,
     pub rank: Rank,
     pub left: u32,
 }

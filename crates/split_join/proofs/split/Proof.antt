@@ -2,7 +2,6 @@
 use Prim.Native.Nat.{ℕ, _-_}
 use mathlib.Core.List.{List}
 use native.Mathlib.Omega.{arith}
-use borrow.Author.Needs.{needs}
 use Rattle.split_join.proofs.SplitTurn.{Turning, turns, level-small, rank-le, links-now, turn}
 use Rattle.split_join.proofs.SplitHeads.{Done, links-done, size-is, cells-a, cells-e, count-is, col-3, col-2, col-0, split-done}
 use Rattle.split_join.proofs.split.Statement.{statement}

@@ -3,14 +3,14 @@ use borrow.Author.Needs.{needs}
 use Rattle.structural.proofs.follow.Statement.{statement}
 use Rattle.structural.proofs.follow.Tie as tie
 
-count-requires : tie.Need-count-requires
-count-requires c κs = search needs
+length-requires : tie.Need-length-requires
+length-requires c κs = search needs
 
 seek-requires : tie.Need-seek-requires
 seek-requires c κs = search needs
 
 join-requires : tie.Need-join-requires
-join-requires c κs = (c .before .before .before .before .before .before .pre, rw (c .before .before .before .count .ensures) at (c .before .seek .ensures))
+join-requires c κs = (c .before .before .before .before .before .before .pre, rw (c .before .before .before .length .ensures) at (c .before .seek .ensures))
 
 same-length : tie.Need-same-length
 same-length c = search needs
@@ -19,4 +19,4 @@ returns : tie.Need-returns
 returns c = search needs
 
 pub follow-spec : {M : Type 1} → statement M
-follow-spec = tie.close (tie.spec count-requires seek-requires join-requires same-length returns)
+follow-spec = tie.close (tie.spec length-requires seek-requires join-requires same-length returns)

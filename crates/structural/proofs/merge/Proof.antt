@@ -16,23 +16,23 @@ abbrev μ-loop : tie.MeasureT-loop
 loop-holds : tie.Need-loop-holds Inv-loop μ-loop
 loop-holds c = record { two = c .before .pre; same = refl; size = refl }
 
-count-requires : tie.Need-count-requires Inv-loop μ-loop
-count-requires c κs = c .before .loop .inv .two .second
+length-requires : tie.Need-length-requires Inv-loop μ-loop
+length-requires c κs = c .before .loop .inv .two .second
 
 move-first-requires : tie.Need-move-first-requires Inv-loop μ-loop
-move-first-requires c κs = (c .before .before .before .before .loop .inv .two, omega (arith, c .before .if1 .taken, c .before .before .count .ensures))
+move-first-requires c κs = (c .before .before .before .before .loop .inv .two, omega (arith, c .before .if1 .taken, c .before .before .length .ensures))
 
 loop-less : tie.Need-loop-less Inv-loop μ-loop
-loop-less c = fewer (c .before .before .before .before .before .before .before .loop .inv .two) (omega (arith, c .before .before .before .before .if1 .taken, c .before .before .before .before .before .count .ensures)) (c .before .before .move-first .ensures)
+loop-less c = fewer (c .before .before .before .before .before .before .before .loop .inv .two) (omega (arith, c .before .before .before .before .if1 .taken, c .before .before .before .before .before .length .ensures)) (c .before .before .move-first .ensures)
 
 loop-again : tie.Need-loop-again Inv-loop μ-loop
-loop-again c = merge-turn (c .before .before .before .before .before .before .before .loop .inv) (omega (arith, c .before .before .before .before .if1 .taken, c .before .before .before .before .before .count .ensures)) (c .before .before .move-first .ensures)
+loop-again c = merge-turn (c .before .before .before .before .before .before .before .loop .inv) (omega (arith, c .before .before .before .before .if1 .taken, c .before .before .before .before .before .length .ensures)) (c .before .before .move-first .ensures)
 
 same-length : tie.Need-same-length Inv-loop μ-loop
 same-length c = c .before .before .before .loop .inv .size
 
 returns : tie.Need-returns Inv-loop μ-loop
-returns c = merge-done (c .before .before .before .loop .inv) (omega (arith, c .if1 .left, c .before .count .ensures))
+returns c = merge-done (c .before .before .before .loop .inv) (omega (arith, c .if1 .left, c .before .length .ensures))
 
 pub merge-spec : {M : Type 1} → statement M
 merge-spec =
@@ -41,7 +41,7 @@ merge-spec =
     Inv-loop
     μ-loop
     loop-holds
-    count-requires
+    length-requires
     move-first-requires
     loop-less
     loop-again

@@ -16,23 +16,23 @@ abbrev μ-loop : tie.MeasureT-loop
 loop-holds : tie.Need-loop-holds Inv-loop μ-loop
 loop-holds c = trims (c .before .pre .0) (c .before .pre .1 .0) (c .before .pre .1 .1)
 
-count-requires : tie.Need-count-requires Inv-loop μ-loop
-count-requires c κs = c .before .loop .inv .listed
+length-requires : tie.Need-length-requires Inv-loop μ-loop
+length-requires c κs = c .before .loop .inv .listed
 
 remove-after-requires : tie.Need-remove-after-requires Inv-loop μ-loop
-remove-after-requires c κs = (can-remove (c .before .before .before .before .before .loop .inv) (omega (arith, c .before .if1 .taken, c .before .before .before .count .ensures)), c .before .before .before .before .before .loop .inv .leads)
+remove-after-requires c κs = (can-remove (c .before .before .before .before .before .loop .inv) (omega (arith, c .before .if1 .taken, c .before .before .before .length .ensures)), c .before .before .before .before .before .loop .inv .leads)
 
 loop-less : tie.Need-loop-less Inv-loop μ-loop
-loop-less c = trim-less (c .before .before .before .before .before .before .before .before .loop .inv) (omega (arith, c .before .before .before .before .if1 .taken, c .before .before .before .before .before .before .count .ensures)) (c .before .before .remove-after .ensures .0)
+loop-less c = trim-less (c .before .before .before .before .before .before .before .before .loop .inv) (omega (arith, c .before .before .before .before .if1 .taken, c .before .before .before .before .before .before .length .ensures)) (c .before .before .remove-after .ensures .0)
 
 loop-again : tie.Need-loop-again Inv-loop μ-loop
-loop-again c = trim-turn (c .before .before .before .before .before .before .before .before .loop .inv) (omega (arith, c .before .before .before .before .if1 .taken, c .before .before .before .before .before .before .count .ensures)) (c .before .before .remove-after .ensures .0)
+loop-again c = trim-turn (c .before .before .before .before .before .before .before .before .loop .inv) (omega (arith, c .before .before .before .before .if1 .taken, c .before .before .before .before .before .before .length .ensures)) (c .before .before .remove-after .ensures .0)
 
 same-length : tie.Need-same-length Inv-loop μ-loop
 same-length c = c .before .before .before .before .loop .inv .size
 
 returns : tie.Need-returns Inv-loop μ-loop
-returns c = trim-done (c .before .before .before .before .loop .inv) (omega (arith, c .if1 .left, c .before .before .count .ensures))
+returns c = trim-done (c .before .before .before .before .loop .inv) (omega (arith, c .if1 .left, c .before .before .length .ensures))
 
 pub trim-spec : {M : Type 1} → statement M
 trim-spec =
@@ -41,7 +41,7 @@ trim-spec =
     Inv-loop
     μ-loop
     loop-holds
-    count-requires
+    length-requires
     remove-after-requires
     loop-less
     loop-again

@@ -5,20 +5,20 @@ use borrow.Author.Needs.{needs}
 use Rattle.structural.proofs.truncate.Statement.{statement}
 use Rattle.structural.proofs.truncate.Tie as tie
 
-count-requires : tie.Need-count-requires
-count-requires c κs = search needs
+length-requires : tie.Need-length-requires
+length-requires c κs = search needs
 
 same-length : tie.Need-same-length
 same-length c = search needs
 
 returns : tie.Need-returns
-returns c = kept-all (c .before .before .before .before .args .n) (c .before .before .before .before .pre) (omega (arith, c .if1 .taken, c .before .count .ensures))
+returns c = kept-all (c .before .before .before .before .args .n) (c .before .before .before .before .pre) (omega (arith, c .if1 .taken, c .before .length .ensures))
 
 seek-requires : tie.Need-seek-requires
 seek-requires c κs = search needs
 
 trim-requires : tie.Need-trim-requires
-trim-requires c κs = (c .before .before .before .before .before .before .before .pre, (omega (arith, c .before .before .before .if1 .left, c .before .before .before .before .count .ensures), c .before .seek .ensures))
+trim-requires c κs = (c .before .before .before .before .before .before .before .pre, (omega (arith, c .before .before .before .if1 .left, c .before .before .before .before .length .ensures), c .before .seek .ensures))
 
 same-length-2 : tie.Need-same-length-2
 same-length-2 c = search needs
@@ -30,7 +30,7 @@ pub truncate-spec : {M : Type 1} → statement M
 truncate-spec =
     tie.close
     (tie.spec
-    count-requires
+    length-requires
     same-length
     returns
     seek-requires

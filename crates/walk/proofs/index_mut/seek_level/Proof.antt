@@ -27,28 +27,50 @@ cell-requires : tie.Need-cell-requires Inv-loop μ-loop
 cell-requires c κs = let g = c .loop .inv _ (c .before .before .pre) in cell-here g (5 + 2 * c .before .before .args .l) (omega (arith, g .owner .level, g .levels))
 
 returns : tie.Need-returns Inv-loop μ-loop
-returns c = ends-here (c .before .before .loop .inv _ (c .before .before .before .before .pre)) _ (c .before .cell .ensures) (c .if1 .taken)
+returns c =
+    let o = c .before .before in
+    ends-here (o .loop .inv _ (o .before .before .pre)) _ (c .before .cell .ensures) (c .if1 .taken)
 
 sub-if2 : tie.Need-sub-if2 Inv-loop μ-loop
-sub-if2 c = let g = c .before .before .before .before .loop .inv _ (c .before .before .before .before .before .before .pre) in g .before
+sub-if2 c =
+    let o = c .before .before .before .before in
+    let g = o .loop .inv _ (o .before .before .pre) in
+    g .before
 
 returns-2 : tie.Need-returns-2 Inv-loop μ-loop
-returns-2 c = ends-there (c .before .before .before .before .before .loop .inv _ (c .before .before .before .before .before .before .before .pre)) _ (c .before .before .before .before .cell .ensures) (c .if2 .taken)
+returns-2 c =
+    let o = c .before .before .before .before .before in
+    ends-there (o .loop .inv _ (o .before .before .pre)) _ (c .before .before .before .before .cell .ensures) (c .if2 .taken)
 
 mul-cell-2 : tie.Need-mul-cell-2 Inv-loop μ-loop
-mul-cell-2 c = let g = c .before .before .before .before .before .loop .inv _ (c .before .before .before .before .before .before .before .pre) in omega (arith, small g, g .owner .level, g .levels)
+mul-cell-2 c =
+    let o = c .before .before .before .before .before in
+    let g = o .loop .inv _ (o .before .before .pre) in
+    omega (arith, small g, g .owner .level, g .levels)
 
 add-cell-2 : tie.Need-add-cell-2 Inv-loop μ-loop
-add-cell-2 c = let g = c .before .before .before .before .before .loop .inv _ (c .before .before .before .before .before .before .before .pre) in omega (arith, small g, g .owner .level, g .levels)
+add-cell-2 c =
+    let o = c .before .before .before .before .before in
+    let g = o .loop .inv _ (o .before .before .pre) in
+    omega (arith, small g, g .owner .level, g .levels)
 
 cell-requires-2 : tie.Need-cell-requires-2 Inv-loop μ-loop
-cell-requires-2 c κs = let g = c .before .before .before .before .before .loop .inv _ (c .before .before .before .before .before .before .before .pre) in cell-here g (4 + 2 * c .before .before .before .before .before .before .before .args .l) (omega (arith, g .owner .level, g .levels))
+cell-requires-2 c κs =
+    let o = c .before .before .before .before .before in
+    let g = o .loop .inv _ (o .before .before .pre) in
+    cell-here g (4 + 2 * c .before .before .before .before .before .before .before .args .l) (omega (arith, g .owner .level, g .levels))
 
 plus-requires : tie.Need-plus-requires Inv-loop μ-loop
-plus-requires c κs = let g = c .before .before .before .before .before .before .loop .inv _ (c .before .before .before .before .before .before .before .before .pre) in omega (arith, c .before .if2 .left, few g, g .within, g .before)
+plus-requires c κs =
+    let o = c .before .before .before .before .before .before in
+    let g = o .loop .inv _ (o .before .before .pre) in
+    omega (arith, c .before .if2 .left, few g, g .within, g .before)
 
 loop-less : tie.Need-loop-less Inv-loop μ-loop
-loop-less c = let g = c .before .before .before .before .before .before .before .loop .inv _ (c .before .before .before .before .before .before .before .before .before .pre) in omega (arith, c .plus .ensures, c .before .before .before .before .before .if1 .left, c .before .before .if2 .left, g .before)
+loop-less c =
+    let o = c .before .before .before .before .before .before .before in
+    let g = o .loop .inv _ (o .before .before .pre) in
+    omega (arith, c .plus .ensures, c .before .before .before .before .before .if1 .left, c .before .before .if2 .left, g .before)
 
 loop-again : tie.Need-loop-again Inv-loop μ-loop
 loop-again c = λ a h. goes-on (c .before .before .before .before .before .before .before .loop .inv a h) _ (c .before .before .before .before .before .before .cell .ensures) (c .before .before .before .before .before .if1 .left) (c .before .before .if2 .left) _ _ (c .before .cell2 .ensures) (c .plus .ensures)

@@ -18,10 +18,15 @@ loop-holds : tie.Need-loop-holds Inv-loop μ-loop
 loop-holds c = λ a g. g
 
 cell-requires : tie.Need-cell-requires Inv-loop μ-loop
-cell-requires c κs = cell-here (c .before .before .before .loop .inv _ (c .before .before .before .before .before .pre)) 2 (omega arith)
+cell-requires c κs =
+    let o = c .before .before .before in
+    cell-here (o .loop .inv _ (o .before .before .pre)) 2 (omega arith)
 
 plus-requires : tie.Need-plus-requires Inv-loop μ-loop
-plus-requires c κs = let g = c .before .before .before .before .loop .inv _ (c .before .before .before .before .before .before .pre) in omega (arith, few g, g .within, c .before .if1 .taken)
+plus-requires c κs =
+    let o = c .before .before .before .before in
+    let g = o .loop .inv _ (o .before .before .pre) in
+    omega (arith, few g, g .within, c .before .if1 .taken)
 
 loop-less : tie.Need-loop-less Inv-loop μ-loop
 loop-less c = omega (arith, c .plus .ensures, c .before .before .if1 .taken)
@@ -30,7 +35,9 @@ loop-again : tie.Need-loop-again Inv-loop μ-loop
 loop-again c = λ a h. steps (c .before .before .before .before .before .loop .inv a h) (c .before .before .if1 .taken) _ _ (c .before .cell .ensures) (c .plus .ensures)
 
 returns : tie.Need-returns Inv-loop μ-loop
-returns c = arrived (c .before .before .before .before .loop .inv _ (c .before .before .before .before .before .before .pre)) (c .before .if1 .left)
+returns c =
+    let o = c .before .before .before .before in
+    arrived (o .loop .inv _ (o .before .before .pre)) (c .before .if1 .left)
 
 pub seek-next-spec : {M : Type 1} → statement M
 seek-next-spec =

@@ -1,0 +1,43 @@
+-- `arena::size` meets its contract: the product is small.
+use native.Mathlib.Omega.{arith}
+use Rattle.arena.proofs.Lengths.{few}
+use borrow.Author.Needs.{needs}
+use Rattle.arena.proofs.size.Statement.{statement}
+use Rattle.arena.proofs.size.Tie as tie
+
+add-wide : tie.Need-add-wide
+add-wide c = search needs
+
+wide-requires : tie.Need-wide-requires
+wide-requires c κs = search needs
+
+wide-requires-2 : tie.Need-wide-requires-2
+wide-requires-2 c κs = search needs
+
+mul-width : tie.Need-mul-width
+mul-width c = search needs
+
+add-width : tie.Need-add-width
+add-width c = search needs
+
+mul-result : tie.Need-mul-result
+mul-result c = rw (c .wide2 .ensures, c .before .wide .ensures) (omega (arith, few _ _ _ (c .before .before .pre)))
+
+add-result : tie.Need-add-result
+add-result c = rw (c .wide2 .ensures, c .before .wide .ensures) (omega (arith, few _ _ _ (c .before .before .pre)))
+
+returns : tie.Need-returns
+returns c = cc
+
+pub size-spec : {M : Type 1} → statement M
+size-spec =
+    tie.close
+    (tie.spec
+    add-wide
+    wide-requires
+    wide-requires-2
+    mul-width
+    add-width
+    mul-result
+    add-result
+    returns)

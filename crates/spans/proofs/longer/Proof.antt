@@ -1,0 +1,21 @@
+-- `spans::longer` meets its contract: the distance told, 0 where the call refuses, is the one promised.
+use mathlib.Core.Path.{_∙_}
+use borrow.Author.Needs.{needs}
+use Rattle.spans.proofs.Distances.{refused, given, raised-is}
+use Rattle.spans.proofs.longer.Statement.{statement}
+use Rattle.spans.proofs.longer.Tie as tie
+
+raise-requires : tie.Need-raise-requires
+raise-requires c κs = search needs
+
+enum-known-x : tie.Need-enum-known-x
+enum-known-x c = search needs
+
+returns : tie.Need-returns
+returns c = refused (c .before .raise .result) (c .before .raise .ensures) (c .match .keys2) ∙ raised-is _ (c .before .before .pre)
+
+returns-2 : tie.Need-returns-2
+returns-2 c = given _ _ (c .before .before .before .raise .ensures) (c .before .x .given .1) ∙ raised-is _ (c .before .before .before .before .pre)
+
+pub longer-spec : {M : Type 1} → statement M
+longer-spec = tie.close (tie.spec raise-requires enum-known-x returns returns-2)
