@@ -15,6 +15,7 @@ pub const LEVELS: u32 = 8;
 pub const NODES: u32 = 400;
 const READINGS: u32 = 256;
 const COPIES: u32 = 64;
+const MIXED: usize = 100_000;
 
 /// The height of rank k in a levelled list.
 pub fn levelled(rank: u32) -> u32 {
@@ -28,6 +29,10 @@ pub trait Engine {
     fn hand(&mut self, call: Call);
     /// The answer as numbers that both engines can give.
     fn call(&mut self, call: Call) -> (u32, u32);
+    /// The same for comparing answers.
+    fn answer(&mut self, call: Call) -> (u32, u32) {
+        self.call(call)
+    }
     fn keys(&mut self, list: u32) -> Vec<u32>;
 }
 
@@ -42,6 +47,8 @@ pub enum Call {
     SplitAt { index: u32 },
     SplitKey { key: u32 },
     Append,
+    /// Of the public calls only.
+    Check,
 }
 
 /// The readings in order: steps of 1 to 400, every sixteenth equal to the one before.
@@ -135,11 +142,55 @@ fn cases() -> Vec<Case> {
         of("append-behind", low, high, true, each(&|_| Call::Append)),
         of("append-in-front", high, low, true, each(&|_| Call::Append)),
         of("append-merging", &even, &odd, true, each(&|_| Call::Append)),
+        of("mixed", &all, &[], false, mixed(all.clone())),
+        of("check", &all, &[], false, each(&|_| Call::Check)),
     ]
+}
+
+/// Accepted calls on a list that keeps 128 to 384 readings: 2 of 5 search, 1 of 5 reads, 1 of 10 splits and appends again, the rest inserts
+/// or removes.
+fn mixed(mut keys: Vec<u32>) -> Vec<Call> {
+    let mut state = 2026u32;
+    let mut below = |n: u32| {
+        state = state.wrapping_mul(1664525).wrapping_add(1013904223);
+        (u64::from(state) * u64::from(n) >> 32) as u32
+    };
+    let mut calls = Vec::new();
+    while calls.len() < MIXED {
+        let index = below(keys.len() as u32);
+        let near = keys[index as usize] + below(2);
+        match below(10) {
+            0..4 => calls.push(Call::Search { key: near }),
+            4..6 => calls.push(Call::Read { index }),
+            6 => calls.extend([Call::SplitAt { index }, Call::Append]),
+            _ if keys.len() < 128 || keys.len() < 384 && below(2) == 0 => {
+                keys.insert(keys.partition_point(|&key| key < near), near);
+                let height = levelled(1 + below(1 << LEVELS));
+                calls.push(Call::Insert { key: near, height });
+            }
+            7..9 => {
+                keys.remove(index as usize);
+                calls.push(Call::RemoveAt { index });
+            }
+            _ => {
+                let key = keys.remove(index as usize);
+                calls.push(Call::RemoveKey { key });
+            }
+        }
+    }
+    calls.truncate(MIXED);
+    calls
 }
 
 fn fold(digest: u64, x: u32) -> u64 {
     (digest ^ u64::from(x)).wrapping_mul(0x100_0000_01b3)
+}
+
+/// One height at a time: the crate copies its generator at every split, and a queue of all heights would be copied with it.
+fn hand_insert<E: Engine>(list: &mut E, call: Call) {
+    if let Call::Insert { .. } = call {
+        list.hand(call);
+    }
 }
 
 fn run<E: Engine>(case: &Case, count: &str) {
@@ -147,15 +198,23 @@ fn run<E: Engine>(case: &Case, count: &str) {
     let mut lists: Vec<E> = (0..copies)
         .map(|_| E::new(black_box(&case.a), black_box(&case.b)))
         .collect();
-    for (list, &call) in lists.iter_mut().zip(&case.calls) {
-        list.hand(call);
+    if case.changes {
+        for (list, &call) in lists.iter_mut().zip(&case.calls) {
+            list.hand(call);
+        }
     }
     if count == "verify" {
         let mut digest = 0xcbf2_9ce4_8422_2325;
         for (i, &call) in case.calls.iter().enumerate() {
             let list = &mut lists[if case.changes { i } else { 0 }];
-            let (x, y) = list.call(call);
+            if !case.changes {
+                hand_insert(list, call);
+            }
+            let (x, y) = list.answer(call);
             digest = fold(fold(digest, x), y);
+            if case.calls.len() == MIXED && i % 1000 != 999 {
+                continue;
+            }
             for key in list.keys(0).into_iter().chain([u32::MAX]).chain(list.keys(1)) {
                 digest = fold(digest, key);
             }
@@ -163,9 +222,17 @@ fn run<E: Engine>(case: &Case, count: &str) {
         println!("{digest:016x}");
     } else {
         let count: usize = count.parse().expect("COUNT is a number or `verify`");
-        for (i, call) in case.calls.iter().take(count).enumerate() {
-            let list = &mut lists[if case.changes { i } else { 0 }];
-            black_box(list.call(black_box(*call)));
+        let calls = &case.calls[..count];
+        if case.calls.len() == MIXED {
+            for &call in calls {
+                hand_insert(&mut lists[0], call);
+                black_box(lists[0].call(black_box(call)));
+            }
+        } else {
+            for (i, &call) in calls.iter().enumerate() {
+                let list = &mut lists[if case.changes { i } else { 0 }];
+                black_box(list.call(black_box(call)));
+            }
         }
     }
     // nothing is freed, so that both runs end alike
@@ -187,7 +254,9 @@ fn main() {
             match *engine {
                 "crate" => run::<crate_engine::Lists>(case, count),
                 #[cfg(ours)]
-                "ours" => run::<our_engine::Lists>(case, count),
+                "core" => run::<our_engine::Core>(case, count),
+                #[cfg(ours)]
+                "public" => run::<our_engine::Public>(case, count),
                 _ => panic!("no engine {engine}"),
             }
         }

@@ -1,45 +1,53 @@
-//! The proved library through its C interface: a slice crosses as pointer and length.
+//! The proved library through its C interface, where a slice crosses as pointer and length: the public calls, and the core functions
+//! that they call once the arena has passed the check and the arguments are accepted.
 
 use crate::{Call, Engine, LEVELS, NODES};
 
-#[repr(C)]
-struct Found {
-    no: u32,
-    found: u32,
-    index: u32,
-    tally: u32,
-}
-
-#[repr(C)]
-struct Keyed {
-    no: u32,
-    key: u32,
-}
-
 unsafe extern "C" {
-    fn ska_setup(w: *mut u32, n: usize, lists: u32, levels: u32, nodes: u32) -> u32;
-    fn ska_search(w: *mut u32, n: usize, list: u32, key: u32, allowance: u32) -> Found;
-    fn ska_read(w: *mut u32, n: usize, list: u32, index: u32) -> Keyed;
+    fn ska_set_up(w: *mut u32, n: usize, lists: u32, levels: u32, nodes: u32) -> u32;
+    fn ska_check(w: *const u32, n: usize) -> u32;
+    fn ska_search(
+        w: *const u32,
+        n: usize,
+        list: u32,
+        key: u32,
+        allowance: u32,
+        found: *mut u32,
+        place: *mut u32,
+        tally: *mut u32,
+    ) -> u32;
+    fn ska_read(w: *const u32, n: usize, list: u32, index: u32, key: *mut u32) -> u32;
     fn ska_insert(w: *mut u32, n: usize, list: u32, key: u32, height: u32) -> u32;
-    fn ska_remove_key(w: *mut u32, n: usize, list: u32, key: u32) -> Keyed;
-    fn ska_remove_at(w: *mut u32, n: usize, list: u32, index: u32) -> Keyed;
-    fn ska_truncate(w: *mut u32, n: usize, list: u32, length: u32) -> u32;
+    fn ska_remove_key(w: *mut u32, n: usize, list: u32, key: u32, removed: *mut u32) -> u32;
+    fn ska_remove_at(w: *mut u32, n: usize, list: u32, index: u32, removed: *mut u32) -> u32;
+    fn ska_truncate(w: *mut u32, n: usize, list: u32, count: u32) -> u32;
     fn ska_split_at(w: *mut u32, n: usize, from: u32, to: u32, index: u32) -> u32;
     fn ska_split_key(w: *mut u32, n: usize, from: u32, to: u32, key: u32) -> u32;
     fn ska_append(w: *mut u32, n: usize, a: u32, b: u32) -> u32;
     fn ska_level(w: *mut u32, n: usize, list: u32) -> u32;
+
+    fn core_search(w: *const u32, n: usize, m: usize, list: u32, key: u32, allowance: u32) -> u32;
+    fn core_read(w: *const u32, n: usize, m: usize, list: u32, index: u32) -> u32;
+    fn core_insert(w: *mut u32, n: usize, m: usize, list: u32, key: u32, height: u32);
+    fn core_remove_key(w: *mut u32, n: usize, m: usize, list: u32, key: u32) -> u32;
+    fn core_remove_at(w: *mut u32, n: usize, m: usize, list: u32, index: u32) -> u32;
+    fn core_truncate(w: *mut u32, n: usize, m: usize, list: u32, count: u32);
+    fn core_split_at(w: *mut u32, n: usize, m: usize, from: u32, to: u32, index: u32);
+    fn core_split_key(w: *mut u32, n: usize, m: usize, from: u32, to: u32, key: u32);
+    fn core_append(w: *mut u32, n: usize, m: usize, a: u32, b: u32);
 }
 
-pub struct Lists(Vec<u32>);
+pub struct Public(Vec<u32>);
+pub struct Core(Public);
 
-impl Engine for Lists {
+impl Engine for Public {
     fn new(a: &[u32], b: &[u32]) -> Self {
         let words = 8 + (2 + NODES) * (4 + 2 * LEVELS);
         let mut w = vec![0; words as usize];
         let (p, n) = (w.as_mut_ptr(), w.len());
-        // SAFETY: `p` and `n` are the whole of `w`, as in every call below.
+        // SAFETY: `p` and `n` are the whole of `w`, as in every call below; out-parameters are local variables.
         unsafe {
-            assert_eq!(ska_setup(p, n, 2, LEVELS, NODES), 0);
+            assert_eq!(ska_set_up(p, n, 2, LEVELS, NODES), 0);
             for (list, keys) in [(0, a), (1, b)] {
                 for &key in keys {
                     assert_eq!(ska_insert(p, n, list, key, 0), 0);
@@ -55,30 +63,80 @@ impl Engine for Lists {
     #[inline]
     fn call(&mut self, call: Call) -> (u32, u32) {
         let (w, n) = (self.0.as_mut_ptr(), self.0.len());
-        let keyed = |k: Keyed| (k.no, k.key);
+        let (mut found, mut value, mut tally) = (0, 0, 0);
         // SAFETY: as in `new`.
         unsafe {
             match call {
                 Call::Search { key } => {
-                    let r = ska_search(w, n, 0, key, u32::MAX);
-                    (r.found, if r.found == 1 { r.index } else { 0 })
+                    ska_search(w, n, 0, key, u32::MAX, &mut found, &mut value, &mut tally);
+                    (found, if found == 1 { value } else { 0 })
                 }
-                Call::Read { index } => keyed(ska_read(w, n, 0, index)),
+                Call::Read { index } => (ska_read(w, n, 0, index, &mut value), value),
                 Call::Insert { key, height } => (ska_insert(w, n, 0, key, height), 0),
-                Call::RemoveKey { key } => keyed(ska_remove_key(w, n, 0, key)),
-                Call::RemoveAt { index } => keyed(ska_remove_at(w, n, 0, index)),
+                Call::RemoveKey { key } => (ska_remove_key(w, n, 0, key, &mut value), value),
+                Call::RemoveAt { index } => (ska_remove_at(w, n, 0, index, &mut value), value),
                 Call::Truncate { length } => (ska_truncate(w, n, 0, length), 0),
                 Call::SplitAt { index } => (ska_split_at(w, n, 0, 1, index), 0),
                 Call::SplitKey { key } => (ska_split_key(w, n, 0, 1, key), 0),
                 Call::Append => (ska_append(w, n, 0, 1), 0),
+                Call::Check => (1 - ska_check(w, n), 0),
             }
         }
     }
 
     fn keys(&mut self, list: u32) -> Vec<u32> {
         let (w, n) = (self.0.as_mut_ptr(), self.0.len());
-        // SAFETY: as in `new`.
-        let read = |index| unsafe { ska_read(w, n, list, index) };
-        (0..).map(read).take_while(|k| k.no == 0).map(|k| k.key).collect()
+        let read = |index| {
+            let mut key = 0;
+            // SAFETY: as in `new`.
+            (unsafe { ska_read(w, n, list, index, &mut key) } == 0).then_some(key)
+        };
+        (0..).map_while(read).collect()
+    }
+}
+
+fn done(_: ()) -> (u32, u32) {
+    (0, 0)
+}
+
+impl Engine for Core {
+    fn new(a: &[u32], b: &[u32]) -> Self {
+        Self(Public::new(a, b))
+    }
+
+    fn hand(&mut self, _: Call) {}
+
+    #[inline]
+    fn call(&mut self, call: Call) -> (u32, u32) {
+        let (w, n, m) = (self.0.0.as_mut_ptr(), self.0.0.len(), LEVELS as usize);
+        // SAFETY: as in `Public`; the words pass, since the public calls and these leave them so, and no case has a call that is refused.
+        unsafe {
+            match call {
+                Call::Search { key } => (0, core_search(w, n, m, 0, key, u32::MAX)),
+                Call::Read { index } => (0, core_read(w, n, m, 0, index)),
+                Call::Insert { key, height } => done(core_insert(w, n, m, 0, key, height)),
+                Call::RemoveKey { key } => (0, core_remove_key(w, n, m, 0, key)),
+                Call::RemoveAt { index } => (0, core_remove_at(w, n, m, 0, index)),
+                Call::Truncate { length } => done(core_truncate(w, n, m, 0, length)),
+                Call::SplitAt { index } => done(core_split_at(w, n, m, 0, 1, index)),
+                Call::SplitKey { key } => done(core_split_key(w, n, m, 0, 1, key)),
+                Call::Append => done(core_append(w, n, m, 0, 1)),
+                Call::Check => (0, 0),
+            }
+        }
+    }
+
+    // the place alone does not say whether the key is there; word 8 is the length of list 0
+    fn answer(&mut self, call: Call) -> (u32, u32) {
+        let (x, y) = self.call(call);
+        match call {
+            Call::Search { key } if y < self.0.0[8] && self.call(Call::Read { index: y }).1 == key => (1, y),
+            Call::Search { .. } => (0, 0),
+            _ => (x, y),
+        }
+    }
+
+    fn keys(&mut self, list: u32) -> Vec<u32> {
+        self.0.keys(list)
     }
 }

@@ -3,16 +3,12 @@ use Prim.Native.Nat.{ℕ, suc, _+_, _*_, _≤_, _<_}
 use mathlib.Core.Path.{_≡_, refl, ap, _∙_}
 use mathlib.Core.List.{List}
 use lib.ListN.{length, getD}
-use native.Mathlib.Nat.{mul-le-mul-right, mul-le-mul}
+use native.Mathlib.Nat.{mul-le-mul-right}
 use native.Mathlib.Numerals.{add-one}
 use native.Mathlib.Omega.{arith}
 use Rattle.model.specs.Cells.{Cell, cellAt}
 use Rattle.arena_check.specs.declared.Dims.{Dims}
 use Rattle.arena_check.specs.Sizes.{Shape, lengths}
-
--- the length of an arena is a small number
-pub few : (l m c : ℕ) → l ≤ 16 → m ≤ 16 → c ≤ 65535 → (l + c) * (4 + 2 * m) ≤ 65551 * 36
-few l m c p q r = mul-le-mul {n₂ = 65551} {m₂ = 36} (omega arith) (omega arith)
 
 pub cell-in : (w : List ℕ) (d : Dims) (s c : ℕ) → Shape w d → s < d .lists + d .room → c < 4 + 2 * d .levels → Cell w (d .levels) s c
 cell-in w d s c v l k = record {

@@ -9,11 +9,10 @@ use native.Mathlib.Omega.{arith}
 use Rattle.model.specs.Cells.{cellAt}
 use Rattle.model.specs.Nodes.{N}
 use Rattle.arena_check.specs.declared.Dims.{Dims}
-use Rattle.arena_check.specs.declared.walks.Pending.{Pending}
 use Rattle.arena.specs.Says.{Says}
 use Rattle.arena_check.specs.Sizes.{Within, Shape}
 use Rattle.arena_check.specs.Free.{AbsentFrom}
-use Rattle.arena_check.specs.Walked.{Closes, Loose, Owners, NodeOk, Taken, Walked, WalkOk, ListOk, filled}
+use Rattle.arena_check.specs.Walked.{Closes, Loose, Owners, NodeOk, Walked, WalkOk, ListOk, filled}
 use Rattle.arena_check.proofs.Answers.{yes, no, say-yes, say-no}
 use Rattle.arena_check.proofs.Levels.{owners-filled}
 
@@ -56,11 +55,11 @@ node-height w d v s k r os qs b h i o e = omega (arith, v .ranges .levels-most, 
 
 -- ---- the walk ----
 -- it stands at slot s, n nodes left, after key k, slot z and rank r: the list is right exactly when what is left of it is
-pub record WalkAt (w : List ℕ) (d : Dims) (a n s k z r : ℕ) (p : Pending) : Type 0 where
+pub record WalkAt (w : List ℕ) (d : Dims) (a n s k z r : ℕ) (os qs : List ℕ) : Type 0 where
   pub few : r + n ≤ d .room
-  pub owners : Owners d (p .slots)
-  pub to : WalkOk w d a → Walked w d (cellAt (d .levels) w a 3) n s k z r (p .slots) (p .ranks)
-  pub from : Walked w d (cellAt (d .levels) w a 3) n s k z r (p .slots) (p .ranks) → WalkOk w d a
+  pub owners : Owners d os
+  pub to : WalkOk w d a → Walked w d (cellAt (d .levels) w a 3) n s k z r os qs
+  pub from : Walked w d (cellAt (d .levels) w a 3) n s k z r os qs → WalkOk w d a
 
 module _ (w : List ℕ) (d : Dims) (e : ℕ) where
   step : (n s k z r : ℕ) (os qs : List ℕ) → 0 < n → Walked w d e n s k z r os qs
@@ -89,7 +88,7 @@ module _ (w : List ℕ) (d : Dims) (e : ℕ) where
 
 module _ (w : List ℕ) (d : Dims) (v : Shape w d) (a : ℕ) where
   pub walk-start : (n s : ℕ) → n ≡ cellAt (d .levels) w a 0 → s ≡ cellAt (d .levels) w a 2 → cellAt (d .levels) w a 0 ≤ d .room → a < d .lists
-      → WalkAt w d a n s 0 N 0 (record { slots = replicate 16 a; ranks = replicate 16 0 })
+      → WalkAt w d a n s 0 N 0 (replicate 16 a) (replicate 16 0)
   walk-start n s i j l k = rw (i, j) (record {
     few = omega arith;
     owners = record { full = refl; slot = λ l i. subst (λ (x : ℕ). x < d .lists + d .room) (sym (getD-replicate 16 l a 0 (omega (arith, v .ranges .levels-most)))) (omega arith) };
@@ -97,29 +96,29 @@ module _ (w : List ℕ) (d : Dims) (v : Shape w d) (a : ℕ) where
     from = λ f. f;
   })
 
-  pub walk-next : (n s k z r : ℕ) (p q : Pending) (b : Bool) (h k′ s′ : ℕ) → WalkAt w d a n s k z r p → 0 < n → Says b (NodeOk w d s k (r + 1) (p .slots) (p .ranks)) → b ≡ true
-      → h ≡ cellAt (d .levels) w s 1 → Taken h s (r + 1) p q → k′ ≡ cellAt (d .levels) w s 0 → s′ ≡ cellAt (d .levels) w s 2 → WalkAt w d a (n - 1) s′ k′ s (r + 1) q
-  walk-next n s k z r p q b h k′ s′ t l o e i g x y = rw (x, y) (record {
+  pub walk-next : (n s k z r : ℕ) (os qs os′ qs′ : List ℕ) (b : Bool) (h k′ s′ : ℕ) → WalkAt w d a n s k z r os qs → 0 < n → Says b (NodeOk w d s k (r + 1) os qs) → b ≡ true
+      → h ≡ cellAt (d .levels) w s 1 → os′ ≡ filled h s os → qs′ ≡ filled h (r + 1) qs → k′ ≡ cellAt (d .levels) w s 0 → s′ ≡ cellAt (d .levels) w s 2 → WalkAt w d a (n - 1) s′ k′ s (r + 1) os′ qs′
+  walk-next n s k z r os qs os′ qs′ b h k′ s′ t l o e i g g′ x y = rw (x, y) (record {
     few = omega (arith, t .few);
-    owners = rw (g .slots) (owners-filled d h s (p .slots) (t .owners) (v .ranges .levels-most) (yes o e .within .below));
-    to = λ f. rw (g .slots, g .ranks, i) (step w d (cellAt (d .levels) w a 3) n s k z r (p .slots) (p .ranks) l (t .to f) .1);
-    from = λ f. t .from (back w d (cellAt (d .levels) w a 3) n s k z r (p .slots) (p .ranks) l (yes o e) (rw (g .slots, g .ranks, i) at f));
+    owners = rw (g) (owners-filled d h s os (t .owners) (v .ranges .levels-most) (yes o e .within .below));
+    to = λ f. rw (g, g′, i) (step w d (cellAt (d .levels) w a 3) n s k z r os qs l (t .to f) .1);
+    from = λ f. t .from (back w d (cellAt (d .levels) w a 3) n s k z r os qs l (yes o e) (rw (g, g′, i) at f));
   })
 
-  pub walk-no-node : (n s k z r : ℕ) (p : Pending) (b : Bool) → WalkAt w d a n s k z r p → 0 < n → Says b (NodeOk w d s k (r + 1) (p .slots) (p .ranks)) → b ≡ false → Says false (WalkOk w d a)
-  walk-no-node n s k z r p b t l o e = say-no (λ f. no o e (step w d (cellAt (d .levels) w a 3) n s k z r (p .slots) (p .ranks) l (t .to f) .0))
+  pub walk-no-node : (n s k z r : ℕ) (os qs : List ℕ) (b : Bool) → WalkAt w d a n s k z r os qs → 0 < n → Says b (NodeOk w d s k (r + 1) os qs) → b ≡ false → Says false (WalkOk w d a)
+  walk-no-node n s k z r os qs b t l o e = say-no (λ f. no o e (step w d (cellAt (d .levels) w a 3) n s k z r os qs l (t .to f) .0))
 
-  pub walk-no-end : (n s k z r : ℕ) (p : Pending) → WalkAt w d a n s k z r p → n ≤ 0 → (s ≡ N → ⊥) → Says false (WalkOk w d a)
-  walk-no-end n s k z r p t l o = say-no (λ f. o (ends w d (cellAt (d .levels) w a 3) n s k z r (p .slots) (p .ranks) l (t .to f) .0))
+  pub walk-no-end : (n s k z r : ℕ) (os qs : List ℕ) → WalkAt w d a n s k z r os qs → n ≤ 0 → (s ≡ N → ⊥) → Says false (WalkOk w d a)
+  walk-no-end n s k z r os qs t l o = say-no (λ f. o (ends w d (cellAt (d .levels) w a 3) n s k z r os qs l (t .to f) .0))
 
-  pub walk-no-last : (n s k z r e : ℕ) (p : Pending) → WalkAt w d a n s k z r p → n ≤ 0 → e ≡ cellAt (d .levels) w a 3 → (z ≡ e → ⊥) → Says false (WalkOk w d a)
-  walk-no-last n s k z r e p t l i o = say-no (λ f. o (ends w d (cellAt (d .levels) w a 3) n s k z r (p .slots) (p .ranks) l (t .to f) .1 ∙ sym i))
+  pub walk-no-last : (n s k z r e : ℕ) (os qs : List ℕ) → WalkAt w d a n s k z r os qs → n ≤ 0 → e ≡ cellAt (d .levels) w a 3 → (z ≡ e → ⊥) → Says false (WalkOk w d a)
+  walk-no-last n s k z r e os qs t l i o = say-no (λ f. o (ends w d (cellAt (d .levels) w a 3) n s k z r os qs l (t .to f) .1 ∙ sym i))
 
-  pub walk-done : (n s k z r e : ℕ) (p : Pending) (y : Bool) → WalkAt w d a n s k z r p → n ≤ 0 → e ≡ cellAt (d .levels) w a 3 → s ≡ N → z ≡ e → Says y (Loose (d .levels) w (p .slots))
+  pub walk-done : (n s k z r e : ℕ) (os qs : List ℕ) (y : Bool) → WalkAt w d a n s k z r os qs → n ≤ 0 → e ≡ cellAt (d .levels) w a 3 → s ≡ N → z ≡ e → Says y (Loose (d .levels) w os)
       → Says y (WalkOk w d a)
-  walk-done n s k z r e p y t l i j m o = record {
-    sound = λ u. t .from (ended w d (cellAt (d .levels) w a 3) n s k z r (p .slots) (p .ranks) l j (m ∙ i) (o .sound u));
-    complete = λ f. o .complete (ends w d (cellAt (d .levels) w a 3) n s k z r (p .slots) (p .ranks) l (t .to f) .2);
+  walk-done n s k z r e os qs y t l i j m o = record {
+    sound = λ u. t .from (ended w d (cellAt (d .levels) w a 3) n s k z r os qs l j (m ∙ i) (o .sound u));
+    complete = λ f. o .complete (ends w d (cellAt (d .levels) w a 3) n s k z r os qs l (t .to f) .2);
   }
 
   -- ---- the list ----

@@ -6,7 +6,6 @@ use lib.ListN.{length, getD, set, replicate}
 use Rattle.model.specs.Cells.{cellAt}
 use Rattle.model.specs.Nodes.{N}
 use Rattle.arena_check.specs.declared.Dims.{Dims}
-use Rattle.arena_check.specs.declared.walks.Pending.{Pending}
 use Rattle.arena_check.specs.Sizes.{Within}
 use Rattle.arena_check.specs.Free.{AbsentFrom}
 
@@ -31,11 +30,6 @@ Loose M w os = AbsentFrom M w (λ l. getD os l 0) 0
 unfoldable pub filled : ℕ → ℕ → List ℕ → List ℕ
 filled zero v xs = xs
 filled (suc h) v xs = set (filled h v xs) h v
-
--- q is p where slot s, of rank r, has become the owner of the levels below h.
-pub record Taken (h s r : ℕ) (p q : Pending) : Type 0 where
-  pub slots : q .slots ≡ filled h s (p .slots)
-  pub ranks : q .ranks ≡ filled h r (p .ranks)
 
 -- The pending owners' slots are slots.
 pub record Owners (d : Dims) (os : List ℕ) : Type 0 where

@@ -1,11 +1,12 @@
-// One walk along a list: its nodes by next, and at each level the pending link, which the next node of that level must close.
+// One walk along a list: its nodes by next, and at each level the pending link, which the next node of that level must close. Two arrays
+// hold the slot and the rank of the last owner that was met at each level.
 ghost use mathlib.Core.Path.{_≡_};
 ghost use Prim.Native.Nat.{_+_, _*_, _≤_, _<_};
 ghost use lib.ListN.{length, getD};
 ghost use Rattle.model.specs.Cells.{cellAt};
 ghost use Rattle.arena.specs.Says.{Says};
 ghost use Rattle.arena_check.specs.Sizes.{Shape};
-ghost use Rattle.arena_check.specs.Walked.{Spans, Closes, Loose, Owners, NodeOk, WalkOk, ListOk, Taken};
+ghost use Rattle.arena_check.specs.Walked.{Spans, Closes, Loose, Owners, NodeOk, WalkOk, ListOk, filled};
 use super::Dims;
 use super::NONE;
 use super::records::absent_from;
@@ -13,12 +14,6 @@ use super::records::within;
 use super::records::word;
 use arena::Rank;
 use arena::Slot;
-
-// Of each level the last owner met: its slot and its rank. Its link at that level is pending.
-pub struct Pending {
-    pub slots: [u32; 16],
-    pub ranks: [u32; 16],
-}
 
 // Whether a link of distance d goes from one rank to another. The sum of two words may pass 32 bits.
 fn spans(from: Rank, d: u32, to: Rank) -> bool
@@ -33,14 +28,20 @@ fn spans(from: Rank, d: u32, to: Rank) -> bool
 }
 
 // Whether at each level below h the pending link goes to slot s, which has rank r.
-fn closes(w: &[u32], d: Dims, p: Pending, h: usize, s: Slot, r: Rank) -> bool
+fn closes(
+    w: &[u32],
+    d: Dims,
+    slots: &[u32; 16],
+    ranks: &[u32; 16],
+    h: usize,
+    s: Slot,
+    r: Rank,
+) -> bool
     requires { ⌜ Shape (now w) d ⌝ }
-    requires { ⌜ Owners d (p .slots) ⌝ }
+    requires { ⌜ Owners d (now slots) ⌝ }
     requires { ⌜ h ≤ d .levels ⌝ }
-    ensures { λ y. ⌜ Says y (Closes (d .levels) (now (w .entry)) h (p .slots) (p .ranks) (s .0) (r .0)) ⌝ }
+    ensures { λ y. ⌜ Says y (Closes (d .levels) (now (w .entry)) h (now (slots .entry)) (now (ranks .entry)) (s .0) (r .0)) ⌝ }
 {
-    let slots = p.slots;
-    let ranks = p.ranks;
     let slot = s.0;
     let rank = r.0;
     let mut l: usize = 0;
@@ -61,31 +62,24 @@ fn closes(w: &[u32], d: Dims, p: Pending, h: usize, s: Slot, r: Rank) -> bool
     true
 }
 
-// The node in slot s, which has rank r, becomes the owner of the levels below h.
-fn taken(p: Pending, h: usize, s: Slot, r: Rank) -> Pending
+// Stores v at each level below h.
+fn fill(xs: &mut [u32; 16], h: usize, v: u32)
     requires { ⌜ h ≤ 16 ⌝ }
-    ensures { λ q. ⌜ Taken h (s .0) (r .0) p q ⌝ }
+    ensures { λ _. ⌜ now (xs .exit) ≡ filled h v (now (xs .entry)) ⌝ }
 {
-    let mut slots = p.slots;
-    let mut ranks = p.ranks;
-    let slot = s.0;
-    let rank = r.0;
     let mut l: usize = 0;
     while l < h {
-        slots[l] = slot;
-        ranks[l] = rank;
+        xs[l] = v;
         l += 1;
     }
-    Pending { slots, ranks }
 }
 
 // Whether every pending link is absent.
-fn loose(w: &[u32], d: Dims, p: Pending) -> bool
+fn loose(w: &[u32], d: Dims, slots: &[u32; 16]) -> bool
     requires { ⌜ Shape (now w) d ⌝ }
-    requires { ⌜ Owners d (p .slots) ⌝ }
-    ensures { λ y. ⌜ Says y (Loose (d .levels) (now (w .entry)) (p .slots)) ⌝ }
+    requires { ⌜ Owners d (now slots) ⌝ }
+    ensures { λ y. ⌜ Says y (Loose (d .levels) (now (w .entry)) (now (slots .entry))) ⌝ }
 {
-    let slots = p.slots;
     let mut l: usize = 0;
     while l < d.levels {
         let owner = slots[l];
@@ -103,10 +97,18 @@ fn loose(w: &[u32], d: Dims, p: Pending) -> bool
 }
 
 // Whether slot s has the form of a node of rank r, after a key k, and closes what is pending below its height.
-fn node_ok(w: &[u32], d: Dims, s: Slot, k: u32, r: Rank, p: Pending) -> bool
+fn node_ok(
+    w: &[u32],
+    d: Dims,
+    s: Slot,
+    k: u32,
+    r: Rank,
+    slots: &[u32; 16],
+    ranks: &[u32; 16],
+) -> bool
     requires { ⌜ Shape (now w) d ⌝ }
-    requires { ⌜ Owners d (p .slots) ⌝ }
-    ensures { λ y. ⌜ Says y (NodeOk (now (w .entry)) d (s .0) k (r .0) (p .slots) (p .ranks)) ⌝ }
+    requires { ⌜ Owners d (now slots) ⌝ }
+    ensures { λ y. ⌜ Says y (NodeOk (now (w .entry)) d (s .0) k (r .0) (now (slots .entry)) (now (ranks .entry))) ⌝ }
 {
     if within(d, s) {} else {
         return false;
@@ -121,7 +123,7 @@ fn node_ok(w: &[u32], d: Dims, s: Slot, k: u32, r: Rank, p: Pending) -> bool
     if word(w, d, s, 3) != 0 {
         return false;
     }
-    if closes(w, d, p, h, s, r) {
+    if closes(w, d, slots, ranks, h, s, r) {
         absent_from(w, d, s, h)
     } else {
         false
@@ -142,16 +144,15 @@ fn walk_ok(w: &[u32], d: Dims, a: Slot) -> bool
     let mut key: u32 = 0;
     let mut last = NONE;
     let mut rank: u32 = 0;
-    let mut p = Pending {
-        slots: [head; 16],
-        ranks: [0; 16],
-    };
+    let mut slots = [head; 16];
+    let mut ranks = [0u32; 16];
     while 0 < left {
         rank += 1;
         left -= 1;
-        if node_ok(w, d, Slot(at), key, Rank(rank), p) {
+        if node_ok(w, d, Slot(at), key, Rank(rank), &slots, &ranks) {
             let h = arena::wide(word(w, d, Slot(at), 1));
-            p = taken(p, h, Slot(at), Rank(rank));
+            fill(&mut slots, h, at);
+            fill(&mut ranks, h, rank);
             key = word(w, d, Slot(at), 0);
             last = at;
             at = word(w, d, Slot(at), 2);
@@ -165,7 +166,7 @@ fn walk_ok(w: &[u32], d: Dims, a: Slot) -> bool
     if last != named {
         return false;
     }
-    loose(w, d, p)
+    loose(w, d, &slots)
 }
 
 // Whether the list of head a is right.

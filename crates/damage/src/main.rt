@@ -13,6 +13,10 @@ fn headers() {
     with(b"version", 1, 2);
     with(b"version of more than 16 bits", 1, 65537);
     with(b"word 7", 7, 1);
+}
+
+// The length fits each of these.
+fn ranges() {
     let mut w = sample();
     w[2] = 0;
     w[4] = 9;
@@ -38,10 +42,16 @@ fn chains() {
     w[8] = 2;
     w[16] = 3;
     said(b"lengths exchanged", &w);
+}
+
+fn steps() {
     with(b"a chain through a head", 26, 1);
     with(b"a chain past the slots", 26, 9);
     with(b"a chain that goes round", 42, 2);
     with(b"a chain that ends early", 26, 4294967295);
+}
+
+fn ends() {
     with(b"last node", 11, 3);
     with(b"keys", 32, 9);
 }
@@ -63,6 +73,9 @@ fn frees() {
     with(b"first free", 5, 7);
     with(b"first free is none", 5, 4294967295);
     with(b"the free chain goes round", 66, 8);
+}
+
+fn free_words() {
     with(b"a free slot's word 0", 64, 1);
     with(b"a free slot's word 1", 65, 0);
     with(b"a free slot's word 3", 67, 1);
@@ -74,10 +87,16 @@ fn records() {
     with(b"a head's word 1", 9, 1);
     with(b"a height above M", 49, 3);
     with(b"a node's word 3", 43, 1);
+}
+
+fn links() {
     with(b"a link's target", 12, 3);
     with(b"a link's distance", 15, 2);
     with(b"a link's distance that passes 32 bits", 29, 4294967295);
     with(b"a distance with no link", 61, 1);
+}
+
+fn levels() {
     let mut w = sample();
     w[14] = 4294967295;
     w[15] = 0;
@@ -96,11 +115,17 @@ fn main() {
     let w = sample();
     said(b"nothing", &w);
     headers();
+    ranges();
     lengths();
     chains();
+    steps();
+    ends();
     shared();
     frees();
+    free_words();
     records();
+    links();
+    levels();
     let passed = flips::over_words();
     io::write_all(STDOUT_FILENO, b"flips of one bit that pass: ");
     io::print_decimal(STDOUT_FILENO, passed as u64);

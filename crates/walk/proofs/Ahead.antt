@@ -1,20 +1,20 @@
 -- Where a present link leads, and what is known of the key behind it. Rests on Looks.
-use Prim.Native.Nat.{ℕ, zero, suc, _+_, _-_, _*_, _≤_, _<_}
+use Prim.Native.Nat.{ℕ, zero, suc, _+_, _<_}
 use mathlib.Core.Path.{_≡_, refl, sym, ap, _∙_}
-use mathlib.Core.Bool.{Bool, true, false}
+use mathlib.Core.Bool.{false}
 use mathlib.Core.List.{List, [], _∷_}
 use lib.Dec.{eqb}
-use lib.ListN.{length, drop, getD, length-drop}
-use lib.Seq.{getD-drop, drop-drop, drop-cons}
+use lib.ListN.{length, drop}
+use lib.Seq.{getD-drop}
 use native.Mathlib.Omega.{arith}
-use borrow.Author.Tests.{eq-eqb, ne-eqb, le-leb}
+use borrow.Author.Tests.{le-leb}
 use Rattle.model.specs.Nodes.{Node, node, N, at, keyAt}
 use Rattle.model.specs.Links.{distance, target}
-use Rattle.model.specs.Walks.{go, asks, keyIs}
+use Rattle.model.specs.Walks.{keyIs}
 use Rattle.model.specs.Cells.{Cell, cellAt}
 use Rattle.model.specs.Passes.{nodes}
 use Rattle.walk.specs.Standing.{At}
-use Rattle.walk.proofs.Looks.{Look, nothing, there, look, cell-here, owner-key}
+use Rattle.walk.proofs.Looks.{nothing, there, look, cell-here, owner-key}
 
 -- where a present link leads: an owner d + 1 ranks on, whose key can be read
 pub record Ahead (w : List ℕ) (m a h s r to d : ℕ) : Type 0 where

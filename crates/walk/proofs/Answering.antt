@@ -13,17 +13,16 @@ use Rattle.model.specs.Nodes.{Node, N, keyAt}
 use Rattle.model.specs.Links.{distance, target}
 use Rattle.model.specs.Walks.{go, asks, ends, tally, keyIs}
 use Rattle.model.specs.Arena.{State, listOf}
-use Rattle.model.specs.Calls.{search, Answer, answer, answerTo}
+use Rattle.model.specs.Calls.{search, answer, answerTo}
 use Rattle.model.specs.Cells.{cellAt}
 use Rattle.model.specs.Passes.{decode, nodes}
-use Rattle.model.proofs.Tests.{Test, hit, miss, test}
+use Rattle.model.proofs.Tests.{hit, miss, test}
 use Rattle.model.proofs.Steps.{Smaller, absent-step, smaller-step, other-step}
 use Rattle.model.proofs.Searching.{walk-found, walk-place, walk-tally}
 use Rattle.arena.specs.Owners.{Listed}
-use Rattle.walk.specs.Standing.{At}
 use Rattle.walk.specs.Answers.{Walking}
-use Rattle.walk.proofs.Ahead.{Ahead, ahead, key-none, key-first}
-use Rattle.walk.proofs.Looks.{Look, nothing, there, look, down-to}
+use Rattle.walk.proofs.Ahead.{ahead, key-none, key-first}
+use Rattle.walk.proofs.Looks.{nothing, there, look, down-to}
 use Rattle.walk.proofs.Seeking.{at-head}
 
 -- ---- the closed form from one look to the next ----

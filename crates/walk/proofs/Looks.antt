@@ -4,7 +4,7 @@ use Prim.Native.Nat.{ℕ, zero, suc, _+_, _*_, _≤_, _<_}
 use mathlib.Core.Path.{_≡_, refl, sym, ap, _∙_}
 use mathlib.Core.List.{List, [], _∷_}
 use lib.ListN.{length, drop, getD, length-drop}
-use lib.Seq.{getD-drop, drop-cons}
+use lib.Seq.{getD-drop}
 use native.Mathlib.Omega.{arith}
 use borrow.Author.Tests.{le-leb}
 use Rattle.model.specs.Nodes.{Node, node, N, at, keyAt, slotAt}
@@ -12,7 +12,7 @@ use Rattle.model.specs.Links.{further, distance, target}
 use Rattle.model.specs.Arena.{firstSlot}
 use Rattle.model.specs.Cells.{Cell, cellAt, recordAt}
 use Rattle.model.specs.Passes.{decode, nodes}
-use Rattle.model.proofs.Tests.{Test, hit, miss, test}
+use Rattle.model.proofs.Tests.{hit, miss, test}
 use Rattle.model.proofs.Steps.{further-one, target-at}
 use Rattle.model.proofs.Counting.{list-few}
 use Rattle.arena.specs.Owners.{Owner, Listed}

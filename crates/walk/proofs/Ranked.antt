@@ -1,24 +1,21 @@
 -- The walk by rank in document 01's own terms: what `seek` notes is what the model's walk by rank notes, and it ends where that one ends.
 -- Rests on Looks, Seeking and model's ByRank.
-use Prim.Native.Nat.{ℕ, zero, suc, _+_, _-_, _≤_, _<_}
-use mathlib.Core.Path.{_≡_, refl, sym, ap, _∙_}
-use mathlib.Core.List.{List, [], _∷_}
-use mathlib.Core.Option.{Option, none, some}
-use lib.ListN.{length, take, getD, replicate, getD-replicate}
+use Prim.Native.Nat.{ℕ, suc, _+_, _-_, _≤_, _<_}
+use mathlib.Core.Path.{_≡_, sym, ap, _∙_}
+use mathlib.Core.List.{List}
+use lib.ListN.{length, take, replicate, getD-replicate}
 use lib.Seq.{take-all, take-length}
 use native.Mathlib.Omega.{arith}
-use Rattle.model.specs.Nodes.{Node, slotAt}
-use Rattle.model.specs.Walks.{rankPrecursors, rankWalk, last}
+use Rattle.model.specs.Nodes.{slotAt}
+use Rattle.model.specs.Walks.{rankWalk, last}
 use Rattle.model.specs.Cells.{cellAt}
-use Rattle.model.specs.Passes.{decode, nodes}
+use Rattle.model.specs.Passes.{nodes}
 use Rattle.model.proofs.ByRank.{rank-precursor, rank-head, rank-head-precursor, rank-there, rank-past}
 use Rattle.arena.specs.Owners.{Listed, Leads}
 use Rattle.arena.specs.declared.Path.{Path}
-use Rattle.arena.specs.declared.Slot.{Slot}
 use Rattle.walk.specs.Ranks.{endOf, ByRank}
 use Rattle.walk.specs.declared.Ended.{Ended}
 use Rattle.walk.specs.declared.Ended.the-variants.{At, None}
-use Rattle.walk.specs.declared.Reached.{Reached}
 use Rattle.walk.proofs.Looks.{standing}
 use Rattle.walk.proofs.Seeking.{steps}
 

@@ -7,16 +7,16 @@ use lib.Seq.{getD-drop, getD-take, length-take-le, getD-set-same, getD-set-other
 use native.Mathlib.Omega.{arith}
 use borrow.Author.Tests.{le-leb}
 use Rattle.model.specs.Nodes.{Node, node, N, at, slotAt}
-use Rattle.model.specs.Links.{further, distance, target}
+use Rattle.model.specs.Links.{further, distance}
 use Rattle.model.specs.Walks.{last}
 use Rattle.model.specs.Cells.{cellAt}
-use Rattle.model.specs.Passes.{decode, nodes}
-use Rattle.model.proofs.Tests.{Test, hit, miss, test}
+use Rattle.model.specs.Passes.{nodes}
+use Rattle.model.proofs.Tests.{hit, miss, test}
 use Rattle.model.proofs.Walk.{last-le}
 use Rattle.model.proofs.Precursor.{last-node}
-use Rattle.arena.specs.Owners.{Owner, Listed, Before}
+use Rattle.arena.specs.Owners.{Listed, Before}
 use Rattle.walk.specs.Standing.{At, Sought}
-use Rattle.walk.proofs.Looks.{Look, nothing, there, look, to-word, far-word, next-word}
+use Rattle.walk.proofs.Looks.{nothing, there, look, to-word, far-word, next-word}
 
 last-ge : (h : ℕ) (aa : List Node) (j : ℕ) → j < length aa → h ≤ at aa j .height → suc j ≤ last h aa
 last-ge h [] j l t = absurd (omega arith)

@@ -1,11 +1,11 @@
 -- The walk by key with precursors: it goes on exactly while it stays at or before the number of smaller keys, so that it stops as the walk
 -- by rank does, and its bound is never met. Rests on Seeking, Turns and model's theorems of the walk by key.
-use Prim.Native.Nat.{ℕ, zero, suc, _+_, _-_, _≤_, _<_}
-use mathlib.Core.Path.{_≡_, refl, sym, ap, _∙_}
+use Prim.Native.Nat.{ℕ, suc, _+_, _≤_, _<_}
+use mathlib.Core.Path.{_≡_, sym, ap, _∙_}
 use mathlib.Core.Bool.{Bool, true, false}
 use mathlib.Core.List.{List}
 use lib.Dec.{eqb}
-use lib.ListN.{length, take, drop, getD}
+use lib.ListN.{take, drop}
 use lib.Seq.{getD-drop, length-take-le}
 use native.Mathlib.Omega.{arith}
 use borrow.Author.Tests.{eq-eqb, ne-eqb}
@@ -14,13 +14,13 @@ use Rattle.model.specs.Links.{distance, target}
 use Rattle.model.specs.Walks.{isFound, keyWalk, keyIs}
 use Rattle.model.specs.Cells.{cellAt}
 use Rattle.model.specs.Passes.{decode, nodes, Passes}
-use Rattle.model.proofs.Tests.{Test, hit, miss, test}
+use Rattle.model.proofs.Tests.{hit, miss, test}
 use Rattle.model.proofs.Keeps.{each-get}
 use Rattle.model.proofs.Walk.{last-zero, smaller-le, place-is}
 use Rattle.model.proofs.Precursor.{key-below, key-above}
 use Rattle.model.proofs.Searching.{walk-found}
 use Rattle.arena.specs.Owners.{Listed}
-use Rattle.walk.specs.Standing.{At, Sought}
+use Rattle.walk.specs.Standing.{At}
 use Rattle.walk.specs.Trails.{Bound, Begun, Halted, Stopped, outcomeOf}
 use Rattle.arena.specs.declared.Slot.{Slot}
 use Rattle.arena.specs.declared.Rank.{Rank}
@@ -28,7 +28,7 @@ use Rattle.walk.specs.declared.Tracer.{Tracer}
 use Rattle.walk.specs.declared.Stop.{Stop}
 use Rattle.walk.specs.declared.Outcome.{Outcome}
 use Rattle.walk.specs.declared.Outcome.the-variants.{Found, Missing}
-use Rattle.walk.proofs.Looks.{Look, nothing, there, look, down-to}
+use Rattle.walk.proofs.Looks.{nothing, there, look, down-to}
 use Rattle.walk.proofs.Seeking.{at-head, sought}
 use Rattle.walk.proofs.Ahead.{Ahead, ahead, key-none, key-first}
 

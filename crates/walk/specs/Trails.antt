@@ -12,7 +12,7 @@ use Rattle.walk.specs.declared.Tracer.{Tracer}
 use Rattle.walk.specs.declared.Trace.{Trace}
 use Rattle.walk.specs.declared.Trace.the-variants.{On, Violation as Violated}
 use Rattle.walk.specs.declared.Outcome.{Outcome}
-use Rattle.walk.specs.declared.Outcome.the-variants.{Found, Missing, Violation}
+use Rattle.walk.specs.declared.Outcome.the-variants.{Found, Missing}
 use Rattle.walk.specs.declared.Stop.{Stop}
 use Rattle.walk.specs.declared.Trail.{Trail}
 use Rattle.walk.specs.Standing.{At, Sought}

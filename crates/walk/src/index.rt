@@ -22,7 +22,7 @@ pub fn length(w: &[u32], m: usize, list: Slot) -> u32
 }
 
 // The slot at a rank.
-fn reach(w: &[u32], m: usize, list: Slot, target: Rank) -> Slot
+pub fn reach(w: &[u32], m: usize, list: Slot, target: Rank) -> Slot
     requires { ⌜ Listed (now w) m (list .0) × (target .0 ≤ length (nodes (now w) (list .0))) ⌝ }
     ensures { λ r. ⌜ r .0 ≡ slotAt (list .0) (nodes (now (w .entry)) (list .0)) (target .0) ⌝ }
 {

@@ -12,6 +12,7 @@ use arena::Rank;
 use arena::Slot;
 pub use index::length;
 pub use index::middle;
+pub use index::reach;
 pub use index::read;
 pub use index_mut::by_rank;
 pub use index_mut::seek;
@@ -30,6 +31,7 @@ pub enum Ended {
     None,
 }
 
+// The precursors of a target rank, and where the walk ends.
 pub struct Reached {
     pub slots: [u32; 16],
     pub ranks: [u32; 16],
@@ -44,6 +46,7 @@ pub struct Visitor {
     pub left: u32,
 }
 
+// After the levels: on, or out of comparisons.
 pub enum Hop {
     On(Visitor),
     Over,
@@ -71,6 +74,7 @@ pub enum Outcome {
     Violation,
 }
 
+// After a level.
 pub enum Trace {
     On(Tracer),
     Violation,

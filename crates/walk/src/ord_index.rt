@@ -55,29 +55,29 @@ fn follow(w: &[u32], m: usize, list: Slot, key: u32, allowance: u32, from: Visit
     requires { ⌜ Visits (now w) m (list .0) key allowance 0 from ⌝ }
     ensures { λ r. ⌜ answerOf r ≡ answerTo (decode (now (w .entry))) (search (list .0) key allowance) ⌝ }
 {
-    let mut v = from;
+    let mut u = from;
     loop {
-        let to = arena::word(w, v.base + 2);
+        let to = arena::word(w, u.base + 2);
         if to == Slot::NONE.0 {
-            return Searched::Missing(v.rank.after(), allowance - v.left);
+            return Searched::Missing(u.rank.after(), allowance - u.left);
         }
-        if v.left == 0 {
+        if u.left == 0 {
             return Searched::Beyond(allowance);
         }
-        v.left = v.left - 1;
+        u.left = u.left - 1;
         let next = Slot(to);
         let there = arena::place(m, next);
         let met = arena::word(w, there);
         if key < met {
-            return Searched::Missing(v.rank.after(), allowance - v.left);
+            return Searched::Missing(u.rank.after(), allowance - u.left);
         }
-        let rank = v.rank.plus(1);
+        let rank = u.rank.plus(1);
         if key == met {
-            return Searched::Found(rank.to_index(), allowance - v.left);
+            return Searched::Found(rank.to_index(), allowance - u.left);
         }
-        v.rank = rank;
-        v.slot = next;
-        v.base = there;
+        u.rank = rank;
+        u.slot = next;
+        u.base = there;
     }
 }
 

@@ -7,10 +7,10 @@ use Rattle.arena_check.proofs.walks.closes.Statement.{statement}
 use Rattle.arena_check.proofs.walks.closes.Tie as tie
 
 abbrev Inv-loop : tie.InvT-loop
-Inv-loop w d h slots ranks slot rank l₀ l = Upto 0 h l (Met (d .levels) w h slots ranks slot rank)
+Inv-loop w d slots ranks h slot rank l₀ l = Upto 0 h l (Met (d .levels) w h slots ranks slot rank)
 
 abbrev μ-loop : tie.MeasureT-loop
-μ-loop w d h slots ranks slot rank l₀ l = h - l
+μ-loop w d slots ranks h slot rank l₀ l = h - l
 
 loop-holds : tie.Need-loop-holds Inv-loop μ-loop
 loop-holds c = close-none _ _ _ _ _ _ _
@@ -18,8 +18,8 @@ loop-holds c = close-none _ _ _ _ _ _ _
 mul-owner : tie.Need-mul-owner Inv-loop μ-loop
 mul-owner c = search needs
 
-array-read-owner : tie.Need-array-read-owner Inv-loop μ-loop
-array-read-owner c = search needs
+element-copy-out-owner : tie.Need-element-copy-out-owner Inv-loop μ-loop
+element-copy-out-owner c = search needs
 
 mul-word : tie.Need-mul-word Inv-loop μ-loop
 mul-word c = search needs
@@ -28,7 +28,7 @@ add-word : tie.Need-add-word Inv-loop μ-loop
 add-word c = search needs
 
 word-requires : tie.Need-word-requires Inv-loop μ-loop
-word-requires c κs = (search needs, (owner-in _ _ _ (c .before .before .before .before .before .pre .1 .0) (omega arith), search needs))
+word-requires c κs = (search needs, (owner-in _ _ _ (c .before .before .before .before .pre .1 .0) (omega arith), search needs))
 
 mul-word-2 : tie.Need-mul-word-2 Inv-loop μ-loop
 mul-word-2 c = search needs
@@ -37,16 +37,16 @@ add-word-2 : tie.Need-add-word-2 Inv-loop μ-loop
 add-word-2 c = search needs
 
 word-requires-2 : tie.Need-word-requires-2 Inv-loop μ-loop
-word-requires-2 c κs = (search needs, (owner-in _ _ _ (c .before .before .before .before .before .before .pre .1 .0) (omega arith), search needs))
+word-requires-2 c κs = (search needs, (owner-in _ _ _ (c .before .before .before .before .before .pre .1 .0) (omega arith), search needs))
 
 mul-from : tie.Need-mul-from Inv-loop μ-loop
 mul-from c = search needs
 
-array-read-from : tie.Need-array-read-from Inv-loop μ-loop
-array-read-from c = search needs
+element-copy-out-from : tie.Need-element-copy-out-from Inv-loop μ-loop
+element-copy-out-from c = search needs
 
 returns : tie.Need-returns Inv-loop μ-loop
-returns c = close-no-to _ _ _ _ _ _ _ _ _ (c .before .before .before .loop-test .taken) (c .before .before .word .ensures) (c .if1 .taken)
+returns c = close-no-to _ _ _ _ _ _ _ _ _ (c .before .before .before .before .before .loop-test .taken) (c .before .before .before .word .ensures) (c .if1 .taken)
 
 spans-requires : tie.Need-spans-requires Inv-loop μ-loop
 spans-requires c κs = search needs
@@ -58,10 +58,10 @@ loop-less : tie.Need-loop-less Inv-loop μ-loop
 loop-less c = search needs
 
 loop-again : tie.Need-loop-again Inv-loop μ-loop
-loop-again c = close-more _ _ _ _ _ _ _ _ _ _ _ (c .before .before .before .before .before .before .loop .inv) (c .before .before .before .before .before .loop-test .taken) (c .before .before .before .before .word .ensures) (c .before .before .if1 .left) (c .before .before .before .word2 .ensures) (c .before .spans .ensures) (c .if2 .taken)
+loop-again c = close-more _ _ _ _ _ _ _ _ _ _ _ (c .before .before .before .before .before .before .before .before .loop .inv) (c .before .before .before .before .before .before .before .loop-test .taken) (c .before .before .before .before .before .word .ensures) (c .before .before .if1 .left) (c .before .before .before .before .word2 .ensures) (c .before .spans .ensures) (c .if2 .taken)
 
 returns-2 : tie.Need-returns-2 Inv-loop μ-loop
-returns-2 c = close-no-far _ _ _ _ _ _ _ _ _ _ (c .before .before .before .before .before .loop-test .taken) (c .before .before .before .word2 .ensures) (c .before .spans .ensures) (c .if2 .left)
+returns-2 c = close-no-far _ _ _ _ _ _ _ _ _ _ (c .before .before .before .before .before .before .before .loop-test .taken) (c .before .before .before .before .word2 .ensures) (c .before .spans .ensures) (c .if2 .left)
 
 returns-3 : tie.Need-returns-3 Inv-loop μ-loop
 returns-3 c = close-all _ _ _ _ _ _ _ _ (c .before .loop .inv) (c .loop-test .left)
@@ -74,7 +74,7 @@ closes-spec =
     μ-loop
     loop-holds
     mul-owner
-    array-read-owner
+    element-copy-out-owner
     mul-word
     add-word
     word-requires
@@ -82,7 +82,7 @@ closes-spec =
     add-word-2
     word-requires-2
     mul-from
-    array-read-from
+    element-copy-out-from
     returns
     spans-requires
     add-l

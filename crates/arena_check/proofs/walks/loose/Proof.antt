@@ -20,8 +20,8 @@ loop-holds c = upto-none _ _ _ (omega arith)
 mul-owner : tie.Need-mul-owner Inv-loop μ-loop
 mul-owner c = search needs
 
-array-read-owner : tie.Need-array-read-owner Inv-loop μ-loop
-array-read-owner c = search needs
+element-copy-out-owner : tie.Need-element-copy-out-owner Inv-loop μ-loop
+element-copy-out-owner c = search needs
 
 mul-word : tie.Need-mul-word Inv-loop μ-loop
 mul-word c = search needs
@@ -42,10 +42,10 @@ word-requires-2 : tie.Need-word-requires-2 Inv-loop μ-loop
 word-requires-2 c κs = (search needs, (owner-in _ _ _ (c .before .before .before .before .before .before .pre .1) (omega arith), search needs))
 
 returns : tie.Need-returns Inv-loop μ-loop
-returns c = absent-no-to _ _ (λ (k : ℕ). getD (c .before .before .before .before .before .before .before .before .args .p .slots) k 0) _ _ _ (c .before .before .before .before .before .loop .inv) (c .before .before .before .if1 .taken) (c .before .before .word .ensures) (c .if2 .taken)
+returns c = absent-no-to _ _ (λ (k : ℕ). getD (c .before .before .before .before .before .before .before .before .args .slots .now) k 0) _ _ _ (c .before .before .before .before .before .before .loop .inv) (c .before .before .before .before .if1 .taken) (c .before .before .word .ensures) (c .if2 .taken)
 
 returns-2 : tie.Need-returns-2 Inv-loop μ-loop
-returns-2 c = absent-no-far _ _ (λ (k : ℕ). getD (c .before .before .before .before .before .before .before .before .before .args .p .slots) k 0) _ _ _ (c .before .before .before .before .before .before .loop .inv) (c .before .before .before .before .if1 .taken) (c .before .before .word2 .ensures) (c .if3 .taken)
+returns-2 c = absent-no-far _ _ (λ (k : ℕ). getD (c .before .before .before .before .before .before .before .before .before .args .slots .now) k 0) _ _ _ (c .before .before .before .before .before .before .before .loop .inv) (c .before .before .before .before .before .if1 .taken) (c .before .before .word2 .ensures) (c .if3 .taken)
 
 add-l : tie.Need-add-l Inv-loop μ-loop
 add-l c = search needs
@@ -55,10 +55,10 @@ loop-less c = search needs
 
 loop-again : tie.Need-loop-again Inv-loop μ-loop
 loop-again c =
-    absent-more _ _ (λ (k : ℕ). getD (c .before .before .before .before .before .before .before .before .before .args .p .slots) k 0) _ _ _ _ (c .before .before .before .before .before .before .loop .inv) (c .before .before .before .before .if1 .taken) (c .before .before .before .word .ensures) (c .before .if2 .left) (c .before .before .word2 .ensures) (c .if3 .left)
+    absent-more _ _ (λ (k : ℕ). getD (c .before .before .before .before .before .before .before .before .before .args .slots .now) k 0) _ _ _ _ (c .before .before .before .before .before .before .before .loop .inv) (c .before .before .before .before .before .if1 .taken) (c .before .before .before .word .ensures) (c .before .if2 .left) (c .before .before .word2 .ensures) (c .if3 .left)
 
 returns-3 : tie.Need-returns-3 Inv-loop μ-loop
-returns-3 c = absent-all _ _ (λ (k : ℕ). getD (c .before .before .before .before .before .args .p .slots) k 0) _ _ (c .before .before .loop .inv) (c .if1 .left)
+returns-3 c = absent-all _ _ (λ (k : ℕ). getD (c .before .before .before .before .args .slots .now) k 0) _ _ (c .before .before .loop .inv) (c .if1 .left)
 
 pub loose-spec : {M : Type 1} → statement M
 loose-spec =
@@ -68,7 +68,7 @@ loose-spec =
     μ-loop
     loop-holds
     mul-owner
-    array-read-owner
+    element-copy-out-owner
     mul-word
     add-word
     word-requires

@@ -11,10 +11,10 @@ use Rattle.walk.proofs.ord_index.follow.Statement.{statement}
 use Rattle.walk.proofs.ord_index.follow.Tie as tie
 
 abbrev Inv-loop : tie.InvT-loop
-Inv-loop w m key allowance v₀ v = (a : ℕ) → Visits w m a key allowance 0 v₀ → Visits w m a key allowance 0 v
+Inv-loop w m key allowance u₀ u = (a : ℕ) → Visits w m a key allowance 0 u₀ → Visits w m a key allowance 0 u
 
 abbrev μ-loop : tie.MeasureT-loop
-μ-loop w m key allowance v₀ v = v .left
+μ-loop w m key allowance u₀ u = u .left
 
 loop-holds : tie.Need-loop-holds Inv-loop μ-loop
 loop-holds c = λ a g. g
@@ -25,7 +25,7 @@ add-word c =
     let b = o .loop .inv _ (o .before .before .pre) in
     let g = b .walking in
     let p = b .placed in
-    omega (arith, inside (g .at) p 2 (o .loop .v .base + 2) refl (omega arith))
+    omega (arith, inside (g .at) p 2 (o .loop .u .base + 2) refl (omega arith))
 
 word-requires : tie.Need-word-requires Inv-loop μ-loop
 word-requires c κs =
@@ -64,8 +64,8 @@ returns-2 c =
     let t = next-read (g .at) p refl (c .before .before .before .before .word .ensures) in
     answers-over g _ t (c .before .before .if1 .left) (c .if2 .taken)
 
-sub-v : tie.Need-sub-v Inv-loop μ-loop
-sub-v c = omega arith
+sub-u : tie.Need-sub-u Inv-loop μ-loop
+sub-u c = omega arith
 
 place-requires : tie.Need-place-requires Inv-loop μ-loop
 place-requires c κs =
@@ -161,7 +161,7 @@ follow-spec =
     sub-t17
     returns
     returns-2
-    sub-v
+    sub-u
     place-requires
     word-requires-2
     after-requires-2

@@ -1,0 +1,45 @@
+-- `core_c::core_remove_key` meets its contract: the key of what the removal answers.
+use mathlib.Core.Path.{ap, sym, _∙_}
+use Rattle.model.specs.Calls.{Answer}
+use Rattle.insert_remove.specs.declared.Removed.{Removed}
+use Rattle.insert_remove.specs.Answers.{removedOf}
+use borrow.Author.Needs.{needs}
+use Rattle.core_c.proofs.core_remove_key.Statement.{statement}
+use Rattle.core_c.proofs.core_remove_key.Tie as tie
+
+remove-key-requires : tie.Need-remove-key-requires
+remove-key-requires c κs = search needs
+
+enum-known-k : tie.Need-enum-known-k
+enum-known-k c = search needs
+
+enum-told : tie.Need-enum-told
+enum-told c = search needs
+
+same-length : tie.Need-same-length
+same-length c = search needs
+
+returns : tie.Need-returns
+returns c =
+    let r = c .before .before .before .before .before .remove-key .ensures in
+    (ap (λ (x : Removed). removedOf x .key) (sym (c .before .k .given .1)) ∙ ap (λ (x : Answer). x .key) (r .told), r .words)
+
+same-length-2 : tie.Need-same-length-2
+same-length-2 c = search needs
+
+returns-2 : tie.Need-returns-2
+returns-2 c =
+    let r = c .before .before .before .before .remove-key .ensures in
+    (ap (λ (x : Removed). removedOf x .key) (sym (c .enum-told .given .1)) ∙ ap (λ (x : Answer). x .key) (r .told), r .words)
+
+pub core-remove-key-spec : {M : Type 1} → statement M
+core-remove-key-spec =
+    tie.close
+    (tie.spec
+    remove-key-requires
+    enum-known-k
+    enum-told
+    same-length
+    returns
+    same-length-2
+    returns-2)

@@ -1,0 +1,97 @@
+// The walk by key.
+ghost use mathlib.Core.Path.{_≡_};
+ghost use mathlib.Core.Bool.{false};
+ghost use Rattle.arena.specs.Owners.{Listed};
+ghost use Rattle.visitor.specs.Visits.{keyVisit};
+use arena::Rank;
+use arena::Slot;
+use walk::Searched;
+
+// Before the walk `current` is the head of the list. `left` is the number of comparisons left; `over` says that the walk asked for more.
+pub struct OrdIndexVisitor {
+    pub current: Slot,
+    pub rank: Rank,
+    pub target: u32,
+    pub left: u32,
+    pub found: bool,
+    pub over: bool,
+}
+
+impl OrdIndexVisitor {
+    pub fn new(head: Slot, target: u32, allowance: u32) -> OrdIndexVisitor
+        ensures { λ r. ⌜ (r .current ≡ head) × (r .rank .0 ≡ 0) × (r .target ≡ target) × (r .left ≡ allowance) × (r .found ≡ false) × (r .over ≡ false) ⌝ }
+    {
+        OrdIndexVisitor {
+            current: head,
+            rank: Rank::HEAD,
+            target,
+            left: allowance,
+            found: false,
+            over: false,
+        }
+    }
+
+    pub fn traversed(self, w: &[u32], m: usize) -> OrdIndexVisitor
+        requires { ⌜ Listed (now w) m (self .current .0) ⌝ }
+        ensures { λ r. ⌜ r ≡ keyVisit (now (w .entry)) m self ⌝ }
+    {
+        let head = self.current;
+        let target = self.target;
+        let left = self.left;
+        match walk::search(w, m, head, target, left) {
+            Searched::Found(i, n) => {
+                let rank = Rank::from_index(i);
+                let current = walk::reach(w, m, head, rank);
+                return OrdIndexVisitor {
+                    current,
+                    rank,
+                    target,
+                    left: left - n,
+                    found: true,
+                    over: false,
+                };
+            }
+            Searched::Missing(i, n) => {
+                let rank = Rank::before(i);
+                let current = walk::reach(w, m, head, rank);
+                return OrdIndexVisitor {
+                    current,
+                    rank,
+                    target,
+                    left: left - n,
+                    found: false,
+                    over: false,
+                };
+            }
+            Searched::Beyond(_) => {
+                return OrdIndexVisitor {
+                    current: head,
+                    rank: Rank::HEAD,
+                    target,
+                    left: 0,
+                    found: false,
+                    over: true,
+                };
+            }
+        }
+    }
+
+    pub fn traverse(&mut self, w: &[u32], m: usize)
+        requires { ⌜ Listed (now w) m (now self .current .0) ⌝ }
+        ensures { λ _. ⌜ now (self .exit) ≡ keyVisit (now (w .entry)) m (now (self .entry)) ⌝ }
+    {
+        let before = *self;
+        let after = before.traversed(w, m);
+        *self = after;
+    }
+
+    // A caller of `traverse`, for callers that keep the visitor by value: it lends its own.
+    pub fn lent(self, w: &[u32], m: usize) -> OrdIndexVisitor
+        requires { ⌜ Listed (now w) m (self .current .0) ⌝ }
+        ensures { λ r. ⌜ r ≡ keyVisit (now (w .entry)) m self ⌝ }
+    {
+        let mut v = self;
+        v.traverse(w, m);
+        v
+    }
+}

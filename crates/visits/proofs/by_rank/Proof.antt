@@ -1,0 +1,49 @@
+-- `visits::by_rank` meets its contract: a new visitor stands at the head of the list.
+use borrow.Author.Needs.{needs}
+use Rattle.visits.proofs.by_rank.Statement.{statement}
+use Rattle.visits.proofs.by_rank.Tie as tie
+
+new-requires : tie.Need-new-requires
+new-requires c κs = search needs
+
+by-rank-requires : tie.Need-by-rank-requires
+by-rank-requires c κs = search needs
+
+reached-requires : tie.Need-reached-requires
+reached-requires c κs = search needs
+
+slice-aggregate-rank-visit : tie.Need-slice-aggregate-rank-visit
+slice-aggregate-rank-visit c = search needs
+
+traversed-requires : tie.Need-traversed-requires
+traversed-requires c κs = rw (c .before .before .before .new .ensures .0) (c .before .before .before .before .before .pre)
+
+rank-visit-requires : tie.Need-rank-visit-requires
+rank-visit-requires c κs = search needs
+
+slice-aggregate-rank-visit-2 : tie.Need-slice-aggregate-rank-visit-2
+slice-aggregate-rank-visit-2 c = search needs
+
+lent-requires : tie.Need-lent-requires
+lent-requires c κs = rw (c .before .before .before .before .before .before .new .ensures .0) (c .before .before .before .before .before .before .before .before .pre)
+
+rank-visit-requires-2 : tie.Need-rank-visit-requires-2
+rank-visit-requires-2 c κs = search needs
+
+returns : tie.Need-returns
+returns c = search needs
+
+pub by-rank-spec : {M : Type 1} → statement M
+by-rank-spec =
+    tie.close
+    (tie.spec
+    new-requires
+    by-rank-requires
+    reached-requires
+    slice-aggregate-rank-visit
+    traversed-requires
+    rank-visit-requires
+    slice-aggregate-rank-visit-2
+    lent-requires
+    rank-visit-requires-2
+    returns)

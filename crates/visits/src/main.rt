@@ -1,0 +1,80 @@
+// Walks Q of document 01 by key and by rank: with the walks by value, and with the visitors given back and lent. Each line ends in the numbers
+// that the walk answers, so that the lines of one key, or of one rank, can be compared.
+mod arena_of_q;
+mod printing;
+
+ghost use Rattle.model.specs.Passes.{Passes};
+ghost use Rattle.arena.specs.Owners.{Listed};
+use arena::Rank;
+use arena::Slot;
+use visitor::IndexVisitor;
+use visitor::OrdIndexVisitor;
+
+const LIST: Slot = Slot(0);
+
+// Word 3 of the header.
+fn levels(w: &[u32]) -> usize
+    requires { ⌜ Passes (now w) ⌝ }
+    ensures { λ m. ⌜ Listed (now (w .entry)) m 0 ⌝ }
+{
+    arena::wide(arena::header(w, 3))
+}
+
+fn by_key(w: &[u32], m: usize, key: u32, allowance: u32)
+    requires { ⌜ Listed (now w) m 0 ⌝ }
+{
+    let v = OrdIndexVisitor::new(LIST, key, allowance);
+    printing::search(key, walk::search(w, m, LIST, key, allowance));
+    printing::key_visit(b"  given back", allowance, v.traversed(w, m));
+    printing::key_visit(b"  lent", allowance, v.lent(w, m));
+}
+
+fn by_rank(w: &[u32], m: usize, target: Rank)
+    requires { ⌜ Listed (now w) m 0 ⌝ }
+{
+    let v = IndexVisitor::new(LIST, target);
+    printing::reached(target, walk::by_rank(w, m, LIST, target));
+    printing::rank_visit(b"  given back", v.traversed(w, m));
+    printing::rank_visit(b"  lent", v.lent(w, m));
+}
+
+fn keys(w: &[u32], m: usize)
+    requires { ⌜ Listed (now w) m 0 ⌝ }
+{
+    by_key(w, m, 5, 100);
+    by_key(w, m, 20, 100);
+    by_key(w, m, 25, 100);
+    by_key(w, m, 30, 100);
+    by_key(w, m, 31, 100);
+    by_key(w, m, 25, 5);
+    by_key(w, m, 25, 4);
+}
+
+fn ranks(w: &[u32], m: usize)
+    requires { ⌜ Listed (now w) m 0 ⌝ }
+{
+    by_rank(w, m, Rank::HEAD);
+    by_rank(w, m, Rank::FIRST);
+    by_rank(w, m, Rank(3));
+    by_rank(w, m, Rank(4));
+    by_rank(w, m, Rank(5));
+}
+
+fn walks(w: &[u32])
+    requires { ⌜ Passes (now w) ⌝ }
+{
+    let m = levels(w);
+    keys(w, m);
+    ranks(w, m);
+}
+
+fn visit(w: &[u32]) {
+    if arena_check::check(w) {
+        walks(w);
+    }
+}
+
+fn main() {
+    let w = arena_of_q::words();
+    visit(&w);
+}

@@ -1,0 +1,104 @@
+// What a walk answers, as a line: by key `found place tally`, or `beyond` with the tally; by rank `slot rank`, or `none`.
+use arena::Rank;
+use script::Text;
+use visitor::IndexVisitor;
+use visitor::OrdIndexVisitor;
+use walk::Ended;
+use walk::Reached;
+use walk::Searched;
+
+fn one(a: u32) {
+    Text::new().byte(b' ').decimal(a).print();
+}
+
+fn end() {
+    io::write_all(1, b"\n");
+}
+
+fn answer(found: u32, place: u32, tally: u32) {
+    one(found);
+    one(place);
+    one(tally);
+    end();
+}
+
+fn beyond(tally: u32) {
+    io::write_all(1, b" beyond");
+    one(tally);
+    end();
+}
+
+pub fn search(key: u32, s: Searched) {
+    io::write_all(1, b"search");
+    one(key);
+    io::write_all(1, b":");
+    match s {
+        Searched::Found(i, n) => answer(1, i.0, n),
+        Searched::Missing(i, n) => answer(0, i.0, n),
+        Searched::Beyond(n) => beyond(n),
+    }
+}
+
+fn spent(allowance: u32, left: u32) -> u32 {
+    if allowance < left {
+        return 0;
+    }
+    allowance - left
+}
+
+// The rank of a key that is found is one more than its index.
+fn place(v: OrdIndexVisitor) -> u32 {
+    if v.found {
+        if v.rank.0 == 0 {
+            return 0;
+        }
+        return v.rank.to_index().0;
+    }
+    v.rank.after().0
+}
+
+fn bit(b: bool) -> u32 {
+    if b {
+        return 1;
+    }
+    0
+}
+
+pub fn key_visit(label: &[u8], allowance: u32, v: OrdIndexVisitor) {
+    io::write_all(1, label);
+    io::write_all(1, b":");
+    if v.over {
+        beyond(spent(allowance, v.left));
+        return;
+    }
+    answer(bit(v.found), place(v), spent(allowance, v.left));
+}
+
+pub fn reached(target: Rank, r: Reached) {
+    io::write_all(1, b"rank");
+    one(target.0);
+    io::write_all(1, b":");
+    let ended = r.ended;
+    match ended {
+        Ended::At(s) => {
+            one(s.0);
+            one(target.0);
+        }
+        Ended::None => {
+            io::write_all(1, b" none");
+        }
+    }
+    end();
+}
+
+pub fn rank_visit(label: &[u8], v: IndexVisitor) {
+    io::write_all(1, label);
+    io::write_all(1, b":");
+    if v.found {
+        one(v.current.0);
+        one(v.rank.0);
+    } else {
+        io::write_all(1, b" none");
+    }
+    end();
+}

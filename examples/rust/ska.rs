@@ -1,0 +1,192 @@
+//! The calls of include/ska.h as a safe wrapper over lent words: pointer and length come from one slice, out-parameters are its own, so no call
+//! can be given memory that it may not touch.
+
+use std::fmt;
+
+mod raw {
+    extern "C" {
+        pub fn ska_set_up(w: *mut u32, n: usize, lists: u32, levels: u32, nodes: u32) -> u32;
+        pub fn ska_check(w: *const u32, n: usize) -> u32;
+        pub fn ska_search(
+            w: *const u32,
+            n: usize,
+            list: u32,
+            key: u32,
+            allowance: u32,
+            found: *mut u32,
+            place: *mut u32,
+            tally: *mut u32,
+        ) -> u32;
+        pub fn ska_read(w: *const u32, n: usize, list: u32, index: u32, key: *mut u32) -> u32;
+        pub fn ska_insert(w: *mut u32, n: usize, list: u32, key: u32, height: u32) -> u32;
+        pub fn ska_remove_key(w: *mut u32, n: usize, list: u32, key: u32, removed: *mut u32) -> u32;
+        pub fn ska_remove_at(w: *mut u32, n: usize, list: u32, index: u32, removed: *mut u32) -> u32;
+        pub fn ska_truncate(w: *mut u32, n: usize, list: u32, count: u32) -> u32;
+        pub fn ska_clear(w: *mut u32, n: usize, list: u32) -> u32;
+        pub fn ska_split_at(w: *mut u32, n: usize, from: u32, to: u32, index: u32) -> u32;
+        pub fn ska_split_key(w: *mut u32, n: usize, from: u32, to: u32, key: u32) -> u32;
+        pub fn ska_append(w: *mut u32, n: usize, a: u32, b: u32) -> u32;
+        pub fn ska_middle(w: *const u32, n: usize, list: u32, key: *mut u32) -> u32;
+        pub fn ska_level(w: *mut u32, n: usize, list: u32) -> u32;
+        pub fn ska_link_make(d: u32, distance: *mut u32) -> u32;
+        pub fn ska_link_raise(d: u32, distance: *mut u32) -> u32;
+        pub fn ska_link_lower(d: u32, distance: *mut u32) -> u32;
+    }
+}
+
+/// Why a call was refused: document 01's number, 1 to 13.
+#[derive(Clone, Copy, Debug, PartialEq, Eq)]
+pub struct Refusal(pub u32);
+
+impl fmt::Display for Refusal {
+    fn fmt(&self, f: &mut fmt::Formatter) -> fmt::Result {
+        let message = match self.0 {
+            1 => "the arena doesn't pass the check",
+            2 => "sizes or length wrong",
+            3 => "no such list",
+            4 => "the same list twice",
+            5 => "height above the number of levels",
+            6 => "no free slot",
+            7 => "the receiving list isn't empty",
+            8 => "index past the end, or an empty list's middle",
+            9 => "no such key",
+            10 => "the search needs more comparisons than allowed",
+            11 => "distance 0",
+            12 => "distance raised past 4294967295",
+            13 => "distance lowered to 0",
+            _ => "unknown number",
+        };
+        f.write_str(message)
+    }
+}
+
+impl std::error::Error for Refusal {}
+
+fn told<T>(number: u32, value: T) -> Result<T, Refusal> {
+    if number == 0 {
+        Ok(value)
+    } else {
+        Err(Refusal(number))
+    }
+}
+
+/// What a search answers: the index of the first equal key, or the place where it would stand.
+#[derive(Clone, Copy, Debug, PartialEq, Eq)]
+pub enum Searched {
+    Found { index: u32, tally: u32 },
+    Missing { place: u32, tally: u32 },
+}
+
+/// Lent words that hold an arena, or are to hold one.
+pub struct Arena<'a>(&'a mut [u32]);
+
+/// How many words an arena of these sizes takes.
+pub fn words(lists: u32, levels: u32, nodes: u32) -> usize {
+    8 + (lists as usize + nodes as usize) * (4 + 2 * levels as usize)
+}
+
+// SAFETY, for every call below: the pointer and the length are those of one slice, borrowed for the call, exclusively where the call may write;
+// out-parameters are local variables, so nothing is null and nothing overlaps.
+impl<'a> Arena<'a> {
+    /// Words as they are: whether they are an arena is asked by every call.
+    pub fn lent(w: &'a mut [u32]) -> Self {
+        Arena(w)
+    }
+
+    pub fn set_up(w: &'a mut [u32], lists: u32, levels: u32, nodes: u32) -> Result<Self, Refusal> {
+        let number = unsafe { raw::ska_set_up(w.as_mut_ptr(), w.len(), lists, levels, nodes) };
+        told(number, Arena(w))
+    }
+
+    pub fn check(&self) -> bool {
+        unsafe { raw::ska_check(self.0.as_ptr(), self.0.len()) == 1 }
+    }
+
+    pub fn search(&self, list: u32, key: u32, allowance: u32) -> Result<Searched, Refusal> {
+        let (mut found, mut place, mut tally) = (0, 0, 0);
+        let (w, n) = (self.0.as_ptr(), self.0.len());
+        let number = unsafe { raw::ska_search(w, n, list, key, allowance, &mut found, &mut place, &mut tally) };
+        let answer = match found {
+            0 => Searched::Missing { place, tally },
+            _ => Searched::Found { index: place, tally },
+        };
+        told(number, answer)
+    }
+
+    pub fn read(&self, list: u32, index: u32) -> Result<u32, Refusal> {
+        let mut key = 0;
+        told(unsafe { raw::ska_read(self.0.as_ptr(), self.0.len(), list, index, &mut key) }, ()).map(|()| key)
+    }
+
+    pub fn middle(&self, list: u32) -> Result<u32, Refusal> {
+        let mut key = 0;
+        told(unsafe { raw::ska_middle(self.0.as_ptr(), self.0.len(), list, &mut key) }, ()).map(|()| key)
+    }
+
+    pub fn insert(&mut self, list: u32, key: u32, height: u32) -> Result<(), Refusal> {
+        told(unsafe { raw::ska_insert(self.0.as_mut_ptr(), self.0.len(), list, key, height) }, ())
+    }
+
+    pub fn remove_key(&mut self, list: u32, key: u32) -> Result<u32, Refusal> {
+        let mut removed = 0;
+        let (w, n) = (self.0.as_mut_ptr(), self.0.len());
+        told(unsafe { raw::ska_remove_key(w, n, list, key, &mut removed) }, ()).map(|()| removed)
+    }
+
+    pub fn remove_at(&mut self, list: u32, index: u32) -> Result<u32, Refusal> {
+        let mut removed = 0;
+        let (w, n) = (self.0.as_mut_ptr(), self.0.len());
+        told(unsafe { raw::ska_remove_at(w, n, list, index, &mut removed) }, ()).map(|()| removed)
+    }
+
+    pub fn truncate(&mut self, list: u32, count: u32) -> Result<(), Refusal> {
+        told(unsafe { raw::ska_truncate(self.0.as_mut_ptr(), self.0.len(), list, count) }, ())
+    }
+
+    pub fn clear(&mut self, list: u32) -> Result<(), Refusal> {
+        told(unsafe { raw::ska_clear(self.0.as_mut_ptr(), self.0.len(), list) }, ())
+    }
+
+    pub fn split_at(&mut self, from: u32, to: u32, index: u32) -> Result<(), Refusal> {
+        told(unsafe { raw::ska_split_at(self.0.as_mut_ptr(), self.0.len(), from, to, index) }, ())
+    }
+
+    pub fn split_key(&mut self, from: u32, to: u32, key: u32) -> Result<(), Refusal> {
+        told(unsafe { raw::ska_split_key(self.0.as_mut_ptr(), self.0.len(), from, to, key) }, ())
+    }
+
+    pub fn append(&mut self, a: u32, b: u32) -> Result<(), Refusal> {
+        told(unsafe { raw::ska_append(self.0.as_mut_ptr(), self.0.len(), a, b) }, ())
+    }
+
+    pub fn level(&mut self, list: u32) -> Result<(), Refusal> {
+        told(unsafe { raw::ska_level(self.0.as_mut_ptr(), self.0.len(), list) }, ())
+    }
+
+    /// The keys of a list, in order.
+    pub fn keys(&self, list: u32) -> Result<Vec<u32>, Refusal> {
+        let mut keys = Vec::new();
+        loop {
+            match self.read(list, keys.len() as u32) {
+                Ok(key) => keys.push(key),
+                Err(Refusal(8)) => return Ok(keys),
+                Err(refusal) => return Err(refusal),
+            }
+        }
+    }
+}
+
+pub fn link_make(d: u32) -> Result<u32, Refusal> {
+    let mut distance = 0;
+    told(unsafe { raw::ska_link_make(d, &mut distance) }, ()).map(|()| distance)
+}
+
+pub fn link_raise(d: u32) -> Result<u32, Refusal> {
+    let mut distance = 0;
+    told(unsafe { raw::ska_link_raise(d, &mut distance) }, ()).map(|()| distance)
+}
+
+pub fn link_lower(d: u32) -> Result<u32, Refusal> {
+    let mut distance = 0;
+    told(unsafe { raw::ska_link_lower(d, &mut distance) }, ()).map(|()| distance)
+}
