@@ -93,7 +93,7 @@ abbrev pub rankWalk : ℕ → ℕ → List Node → Option ℕ
 rankWalk M t xs = let r = descendRanks M t xs 0 in nextRanks t r (drop r xs)
 
 -- ---- closed forms ----
--- No contract cites these; proofs/Searching shows that the walk by key is made of them.
+-- No public promise cites these; contracts of the inner crates do, and proofs/Searching shows that the walk by key is made of them.
 
 -- From an owner that `ys` follow, at stage h, with target t: how many ranks the walk goes on, and its comparisons.
 abbrev pub go : ℕ → ℕ → List Node → ℕ
