@@ -2,7 +2,8 @@
 ghost use mathlib.Core.Path.{_≡_};
 ghost use Prim.Native.Nat.{_+_, _*_, _≤_, _<_};
 ghost use lib.ListN.{length, getD, set};
-ghost use Rattle.model.specs.Cells.{Cell, cellAt, putAt};
+ghost use Rattle.model.specs.Cells.{place, Cell, cellAt, putAt};
+ghost use Rattle.model.specs.Arena.{headerWords, width};
 
 // The number of a record; lists are named by their heads' slots, 0 to L - 1.
 pub struct Slot(pub u32);
@@ -66,10 +67,45 @@ impl Rank {
     }
 }
 
-// Words 0 and 1 of every arena.
+// The header's words (model's `listsWord` and so on), and how many there are.
+pub const MARK_WORD: usize = 0;
+
+pub const VERSION_WORD: usize = 1;
+
+pub const LISTS_WORD: usize = 2;
+
+pub const LEVELS_WORD: usize = 3;
+
+pub const ROOM_WORD: usize = 4;
+
+pub const FIRST_FREE_WORD: usize = 5;
+
+pub const FREE_WORD: usize = 6;
+
+pub const ZERO_WORD: usize = 7;
+
+pub const HEADER: usize = 8;
+
 pub const MARK: u32 = 4279123;
 
 pub const VERSION: u32 = 1;
+
+// A record's columns (model's `keyColumn` and so on); the link of level l has its target in TO + LINK * l and its distance in FAR + LINK * l.
+pub const COUNT: usize = 0;
+
+pub const KEY: usize = 0;
+
+pub const HEIGHT: usize = 1;
+
+pub const NEXT: usize = 2;
+
+pub const LAST: usize = 3;
+
+pub const TO: usize = 4;
+
+pub const FAR: usize = 5;
+
+pub const LINK: usize = 2;
 
 pub fn wide(x: u32) -> usize
     ensures { λ r. ⌜ r ≡ x ⌝ }
@@ -84,13 +120,20 @@ pub fn narrow(x: usize) -> u32
     x as u32
 }
 
-// Where the record of slot s begins, in an arena of m levels.
+// The number of words of a record, in an arena of m levels.
+pub fn width(m: usize) -> usize
+    requires { ⌜ m ≤ 16 ⌝ }
+    ensures { λ r. ⌜ r ≡ width m ⌝ }
+{
+    TO + LINK * m
+}
+
+// Where the record of slot s begins.
 pub fn place(m: usize, s: Slot) -> usize
     requires { ⌜ m ≤ 16 ⌝ }
-    ensures { λ r. ⌜ r ≡ 8 + s .0 * (4 + 2 * m) ⌝ }
+    ensures { λ r. ⌜ r ≡ place m (s .0) ⌝ }
 {
-    let i = s.0 as usize;
-    8 + i * (4 + 2 * m)
+    HEADER + wide(s.0) * width(m)
 }
 
 pub fn word(w: &[u32], at: usize) -> u32
@@ -105,16 +148,15 @@ pub fn cell(w: &[u32], m: usize, s: Slot, c: usize) -> u32
     requires { ⌜ Cell (now w) m (s .0) c ⌝ }
     ensures { λ r. ⌜ r ≡ cellAt m (now (w .entry)) (s .0) c ⌝ }
 {
-    let i = s.0 as usize;
-    w[8 + i * (4 + 2 * m) + c]
+    w[place(m, s) + c]
 }
 
 pub fn put(w: &mut [u32], m: usize, s: Slot, c: usize, v: u32)
     requires { ⌜ Cell (now w) m (s .0) c ⌝ }
     ensures { λ _. ⌜ now (w .exit) ≡ putAt m (now (w .entry)) (s .0) c v ⌝ }
 {
-    let i = s.0 as usize;
-    w[8 + i * (4 + 2 * m) + c] = v;
+    let at = place(m, s) + c;
+    w[at] = v;
 }
 
 // Two words of one column.
@@ -128,14 +170,14 @@ pub fn put2(w: &mut [u32], m: usize, c: usize, x: Slot, v: u32, y: Slot, u: u32)
 
 // Word i of the header.
 pub fn header(w: &[u32], i: usize) -> u32
-    requires { ⌜ (i < 8) × (8 ≤ length (now w)) ⌝ }
+    requires { ⌜ (i < headerWords) × (headerWords ≤ length (now w)) ⌝ }
     ensures { λ r. ⌜ r ≡ getD (now (w .entry)) i 0 ⌝ }
 {
     w[i]
 }
 
 pub fn put_header(w: &mut [u32], i: usize, v: u32)
-    requires { ⌜ (i < 8) × (8 ≤ length (now w)) ⌝ }
+    requires { ⌜ (i < headerWords) × (headerWords ≤ length (now w)) ⌝ }
     ensures { λ _. ⌜ now (w .exit) ≡ set (now (w .entry)) i v ⌝ }
 {
     w[i] = v;
@@ -144,9 +186,7 @@ pub fn put_header(w: &mut [u32], i: usize, v: u32)
 // The length of an arena of l lists, m levels and c nodes.
 pub fn size(l: u32, m: u32, c: u32) -> usize
     requires { ⌜ (l ≤ 16) × (m ≤ 16) × (c ≤ 65535) ⌝ }
-    ensures { λ r. ⌜ r ≡ 8 + (l + c) * (4 + 2 * m) ⌝ }
+    ensures { λ r. ⌜ r ≡ headerWords + (l + c) * width m ⌝ }
 {
-    let slots = wide(l + c);
-    let width = 4 + 2 * wide(m);
-    8 + slots * width
+    HEADER + wide(l + c) * width(wide(m))
 }

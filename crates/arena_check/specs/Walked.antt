@@ -5,6 +5,7 @@ use mathlib.Core.List.{List}
 use lib.ListN.{length, getD, set, replicate}
 use Rattle.model.specs.Cells.{cellAt}
 use Rattle.model.specs.Nodes.{N}
+use Rattle.model.specs.Arena.{toColumn, farColumn, countColumn, keyColumn, heightColumn, nextColumn, lastColumn}
 use Rattle.arena_check.specs.declared.Dims.{Dims}
 use Rattle.arena_check.specs.Sizes.{Within}
 use Rattle.arena_check.specs.Free.{AbsentFrom}
@@ -15,8 +16,8 @@ pub record Spans (q d r : ℕ) : Type 0 where
 
 -- The link at level l of slot o, which has rank q, goes to slot s, which has rank r.
 pub record Meets (M : ℕ) (w : List ℕ) (o q l s r : ℕ) : Type 0 where
-  pub to : cellAt M w o (4 + 2 * l) ≡ s
-  pub far : Spans q (cellAt M w o (5 + 2 * l)) r
+  pub to : cellAt M w o (toColumn l) ≡ s
+  pub far : Spans q (cellAt M w o (farColumn l)) r
 
 -- At each level below h the pending link goes to slot s of rank r.
 unfoldable pub Closes : ℕ → List ℕ → ℕ → List ℕ → List ℕ → ℕ → ℕ → Type 0
@@ -39,24 +40,24 @@ pub record Owners (d : Dims) (os : List ℕ) : Type 0 where
 -- Slot s has the form of a node of rank r, after a key k, and closes what is pending below its height.
 pub record NodeOk (w : List ℕ) (d : Dims) (s k r : ℕ) (os qs : List ℕ) : Type 0 where
   pub within : Within d s
-  pub rises : k ≤ cellAt (d .levels) w s 0
-  pub low : cellAt (d .levels) w s 1 ≤ d .levels
-  pub zero : cellAt (d .levels) w s 3 ≡ 0
-  pub closes : Closes (d .levels) w (cellAt (d .levels) w s 1) os qs s r
-  pub absent : AbsentFrom (d .levels) w (λ _. s) (cellAt (d .levels) w s 1)
+  pub rises : k ≤ cellAt (d .levels) w s keyColumn
+  pub low : cellAt (d .levels) w s heightColumn ≤ d .levels
+  pub zero : cellAt (d .levels) w s lastColumn ≡ 0
+  pub closes : Closes (d .levels) w (cellAt (d .levels) w s heightColumn) os qs s r
+  pub absent : AbsentFrom (d .levels) w (λ _. s) (cellAt (d .levels) w s heightColumn)
 
--- From slot s on, by word 2, n nodes are right, and then N; e is the last slot. Key k, slot z and rank r are those just before.
+-- From slot s on, by next, n nodes are right, and then N; e is the last slot. Key k, slot z and rank r are those just before.
 unfoldable pub Walked : List ℕ → Dims → ℕ → ℕ → ℕ → ℕ → ℕ → ℕ → List ℕ → List ℕ → Type 0
 Walked w d e zero s k z r os qs = (s ≡ N) × (z ≡ e) × Loose (d .levels) w os
 Walked w d e (suc n) s k z r os qs =
     NodeOk w d s k (suc r) os qs
-    × Walked w d e n (cellAt (d .levels) w s 2) (cellAt (d .levels) w s 0) s (suc r) (filled (cellAt (d .levels) w s 1) s os) (filled (cellAt (d .levels) w s 1) (suc r) qs)
+    × Walked w d e n (cellAt (d .levels) w s nextColumn) (cellAt (d .levels) w s keyColumn) s (suc r) (filled (cellAt (d .levels) w s heightColumn) s os) (filled (cellAt (d .levels) w s heightColumn) (suc r) qs)
 
--- The walk along the list of head a finds it right; and so is the head's word 1.
+-- The walk along the list of head a finds it right; and so is the head's height.
 abbrev pub WalkOk : List ℕ → Dims → ℕ → Type 0
 WalkOk w d a =
-    Walked w d (cellAt (d .levels) w a 3) (cellAt (d .levels) w a 0) (cellAt (d .levels) w a 2) 0 N 0 (replicate 16 a) (replicate 16 0)
+    Walked w d (cellAt (d .levels) w a lastColumn) (cellAt (d .levels) w a countColumn) (cellAt (d .levels) w a nextColumn) 0 N 0 (replicate 16 a) (replicate 16 0)
 
 pub record ListOk (w : List ℕ) (d : Dims) (a : ℕ) : Type 0 where
-  pub height : cellAt (d .levels) w a 1 ≡ d .levels
+  pub height : cellAt (d .levels) w a heightColumn ≡ d .levels
   pub walk : WalkOk w d a

@@ -2,6 +2,7 @@
 ghost use mathlib.Core.Path.{_≡_};
 ghost use Prim.Native.Nat.{_+_, _*_, _≤_};
 ghost use lib.ListN.{getD};
+ghost use Rattle.model.specs.Arena.{freeWord};
 ghost use Rattle.arena.specs.Says.{Says};
 ghost use Rattle.arena_check.specs.Sizes.{dimsOf, Shape, Headed, lengths};
 use super::Dims;
@@ -12,18 +13,18 @@ use arena::Slot;
 pub fn header_ok(w: &[u32]) -> bool
     ensures { λ r. ⌜ Says r (Headed (now (w .entry))) ⌝ }
 {
-    if w.len() < 8 {
+    if w.len() < arena::HEADER {
         return false;
     }
-    if w[0] != arena::MARK {
+    if w[arena::MARK_WORD] != arena::MARK {
         return false;
     }
-    if w[1] != arena::VERSION {
+    if w[arena::VERSION_WORD] != arena::VERSION {
         return false;
     }
-    let l = w[2];
-    let m = w[3];
-    let c = w[4];
+    let l = w[arena::LISTS_WORD];
+    let m = w[arena::LEVELS_WORD];
+    let c = w[arena::ROOM_WORD];
     if l < 1 {
         return false;
     }
@@ -42,7 +43,7 @@ pub fn header_ok(w: &[u32]) -> bool
     if c > 65535 {
         return false;
     }
-    if w[7] != 0 {
+    if w[arena::ZERO_WORD] != 0 {
         return false;
     }
     if w.len() != arena::size(l, m, c) {
@@ -56,23 +57,23 @@ pub fn dims_of(w: &[u32]) -> Dims
     requires { ⌜ Headed (now w) ⌝ }
     ensures { λ r. ⌜ r ≡ dimsOf (now (w .entry)) ⌝ }
 {
-    let levels = arena::wide(w[3]);
+    let levels = arena::wide(w[arena::LEVELS_WORD]);
     Dims {
-        lists: w[2],
+        lists: w[arena::LISTS_WORD],
         levels,
-        room: w[4],
+        room: w[arena::ROOM_WORD],
     }
 }
 
 // The number of free slots and the lengths of all lists, as the header and the heads say them, in all.
 pub fn counted(w: &[u32], d: Dims) -> usize
     requires { ⌜ Shape (now w) d ⌝ }
-    ensures { λ r. ⌜ r ≡ getD (now (w .entry)) 6 0 + lengths (d .levels) (now (w .entry)) (d .lists) ⌝ }
+    ensures { λ r. ⌜ r ≡ getD (now (w .entry)) freeWord 0 + lengths (d .levels) (now (w .entry)) (d .lists) ⌝ }
 {
-    let mut sum = arena::wide(w[6]);
+    let mut sum = arena::wide(w[arena::FREE_WORD]);
     let mut a: u32 = 0;
     while a < d.lists {
-        sum += arena::wide(word(w, d, Slot(a), 0));
+        sum += arena::wide(word(w, d, Slot(a), arena::COUNT));
         a += 1;
     }
     sum

@@ -2,6 +2,7 @@
 ghost use mathlib.Core.Path.{_≡_};
 ghost use Prim.Native.Nat.{_+_, _<_};
 ghost use lib.ListN.{getD};
+ghost use Rattle.model.specs.Arena.{freeWord};
 ghost use Rattle.arena.specs.Says.{Says};
 ghost use Rattle.arena_check.specs.Answers.{Below};
 ghost use Rattle.arena_check.specs.Sizes.{Shape, lengths, Differ};
@@ -15,7 +16,7 @@ use arena::Slot;
 // Whether every list is right.
 pub fn lists_ok(w: &[u32], d: Dims) -> bool
     requires { ⌜ Shape (now w) d ⌝ }
-    requires { ⌜ getD (now w) 6 0 + lengths (d .levels) (now w) (d .lists) ≡ d .room ⌝ }
+    requires { ⌜ getD (now w) freeWord 0 + lengths (d .levels) (now w) (d .lists) ≡ d .room ⌝ }
     ensures { λ r. ⌜ Says r (Below (d .lists) (ListOk (now (w .entry)) d)) ⌝ }
 {
     let mut a: u32 = 0;
@@ -36,13 +37,13 @@ fn last_apart(w: &[u32], d: Dims, a: Slot) -> bool
     ensures { λ r. ⌜ Says r (Below (a .0) (Differ (d .levels) (now (w .entry)) (a .0))) ⌝ }
 {
     let head = a.0;
-    let last = word(w, d, Slot(head), 3);
+    let last = word(w, d, Slot(head), arena::LAST);
     if last == NONE {
         return true;
     }
     let mut b: u32 = 0;
     while b < head {
-        if word(w, d, Slot(b), 3) == last {
+        if word(w, d, Slot(b), arena::LAST) == last {
             return false;
         }
         b += 1;

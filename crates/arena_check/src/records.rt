@@ -3,6 +3,7 @@ ghost use mathlib.Core.Path.{_≡_};
 ghost use Prim.Native.Nat.{_+_, _*_, _≤_, _<_};
 ghost use lib.ListN.{getD};
 ghost use Rattle.model.specs.Cells.{cellAt};
+ghost use Rattle.model.specs.Arena.{width, firstFreeWord, freeWord};
 ghost use Rattle.arena.specs.Says.{Says};
 ghost use Rattle.arena_check.specs.Sizes.{Shape, Within};
 ghost use Rattle.arena_check.specs.Free.{AbsentFrom, FreeNode, FreeFrom};
@@ -14,7 +15,7 @@ use arena::Slot;
 pub fn word(w: &[u32], d: Dims, s: Slot, c: usize) -> u32
     requires { ⌜ Shape (now w) d ⌝ }
     requires { ⌜ s .0 < d .lists + d .room ⌝ }
-    requires { ⌜ c < 4 + 2 * d .levels ⌝ }
+    requires { ⌜ c < width (d .levels) ⌝ }
     ensures { λ r. ⌜ r ≡ cellAt (d .levels) (now (w .entry)) (s .0) c ⌝ }
 {
     arena::cell(w, d.levels, s, c)
@@ -44,10 +45,10 @@ pub fn absent_from(w: &[u32], d: Dims, s: Slot, h: usize) -> bool
     let slot = s.0;
     let mut l = h;
     while l < d.levels {
-        if word(w, d, Slot(slot), 4 + 2 * l) != NONE {
+        if word(w, d, Slot(slot), arena::TO + arena::LINK * l) != NONE {
             return false;
         }
-        if word(w, d, Slot(slot), 5 + 2 * l) != 0 {
+        if word(w, d, Slot(slot), arena::FAR + arena::LINK * l) != 0 {
             return false;
         }
         l += 1;
@@ -63,13 +64,13 @@ fn free_node(w: &[u32], d: Dims, s: Slot) -> bool
     if within(d, s) {} else {
         return false;
     }
-    if word(w, d, s, 0) != 0 {
+    if word(w, d, s, arena::KEY) != 0 {
         return false;
     }
-    if word(w, d, s, 1) != NONE {
+    if word(w, d, s, arena::HEIGHT) != NONE {
         return false;
     }
-    if word(w, d, s, 3) != 0 {
+    if word(w, d, s, arena::LAST) != 0 {
         return false;
     }
     absent_from(w, d, s, 0)
@@ -78,13 +79,13 @@ fn free_node(w: &[u32], d: Dims, s: Slot) -> bool
 // Whether the free chain is right.
 pub fn free_ok(w: &[u32], d: Dims) -> bool
     requires { ⌜ Shape (now w) d ⌝ }
-    ensures { λ r. ⌜ Says r (FreeFrom (now (w .entry)) d (getD (now (w .entry)) 6 0) (getD (now (w .entry)) 5 0)) ⌝ }
+    ensures { λ r. ⌜ Says r (FreeFrom (now (w .entry)) d (getD (now (w .entry)) freeWord 0) (getD (now (w .entry)) firstFreeWord 0)) ⌝ }
 {
-    let mut left = w[6];
-    let mut at = w[5];
+    let mut left = w[arena::FREE_WORD];
+    let mut at = w[arena::FIRST_FREE_WORD];
     while 0 < left {
         if free_node(w, d, Slot(at)) {
-            at = word(w, d, Slot(at), 2);
+            at = word(w, d, Slot(at), arena::NEXT);
             left -= 1;
         } else {
             return false;

@@ -47,8 +47,8 @@ fn closes(
     let mut l: usize = 0;
     while l < h {
         let owner = slots[l];
-        let to = word(w, d, Slot(owner), 4 + 2 * l);
-        let far = word(w, d, Slot(owner), 5 + 2 * l);
+        let to = word(w, d, Slot(owner), arena::TO + arena::LINK * l);
+        let far = word(w, d, Slot(owner), arena::FAR + arena::LINK * l);
         let from = ranks[l];
         if to != slot {
             return false;
@@ -83,8 +83,8 @@ fn loose(w: &[u32], d: Dims, slots: &[u32; 16]) -> bool
     let mut l: usize = 0;
     while l < d.levels {
         let owner = slots[l];
-        let to = word(w, d, Slot(owner), 4 + 2 * l);
-        let far = word(w, d, Slot(owner), 5 + 2 * l);
+        let to = word(w, d, Slot(owner), arena::TO + arena::LINK * l);
+        let far = word(w, d, Slot(owner), arena::FAR + arena::LINK * l);
         if to != NONE {
             return false;
         }
@@ -113,14 +113,14 @@ fn node_ok(
     if within(d, s) {} else {
         return false;
     }
-    let h = arena::wide(word(w, d, s, 1));
-    if word(w, d, s, 0) < k {
+    let h = arena::wide(word(w, d, s, arena::HEIGHT));
+    if word(w, d, s, arena::KEY) < k {
         return false;
     }
     if h > d.levels {
         return false;
     }
-    if word(w, d, s, 3) != 0 {
+    if word(w, d, s, arena::LAST) != 0 {
         return false;
     }
     if closes(w, d, slots, ranks, h, s, r) {
@@ -138,9 +138,9 @@ fn walk_ok(w: &[u32], d: Dims, a: Slot) -> bool
     ensures { λ y. ⌜ Says y (WalkOk (now (w .entry)) d (a .0)) ⌝ }
 {
     let head = a.0;
-    let named = word(w, d, Slot(head), 3);
-    let mut left = word(w, d, Slot(head), 0);
-    let mut at = word(w, d, Slot(head), 2);
+    let named = word(w, d, Slot(head), arena::LAST);
+    let mut left = word(w, d, Slot(head), arena::COUNT);
+    let mut at = word(w, d, Slot(head), arena::NEXT);
     let mut key: u32 = 0;
     let mut last = NONE;
     let mut rank: u32 = 0;
@@ -150,12 +150,12 @@ fn walk_ok(w: &[u32], d: Dims, a: Slot) -> bool
         rank += 1;
         left -= 1;
         if node_ok(w, d, Slot(at), key, Rank(rank), &slots, &ranks) {
-            let h = arena::wide(word(w, d, Slot(at), 1));
+            let h = arena::wide(word(w, d, Slot(at), arena::HEIGHT));
             fill(&mut slots, h, at);
             fill(&mut ranks, h, rank);
-            key = word(w, d, Slot(at), 0);
+            key = word(w, d, Slot(at), arena::KEY);
             last = at;
-            at = word(w, d, Slot(at), 2);
+            at = word(w, d, Slot(at), arena::NEXT);
         } else {
             return false;
         }
@@ -176,7 +176,7 @@ pub fn list_ok(w: &[u32], d: Dims, a: Slot) -> bool
     requires { ⌜ cellAt (d .levels) (now w) (a .0) 0 ≤ d .room ⌝ }
     ensures { λ y. ⌜ Says y (ListOk (now (w .entry)) d (a .0)) ⌝ }
 {
-    let h = arena::wide(word(w, d, a, 1));
+    let h = arena::wide(word(w, d, a, arena::HEIGHT));
     if h != d.levels {
         return false;
     }

@@ -58,24 +58,24 @@ pub enum PlainAnswer {
     Refused(Refusal),
 }
 
-// Words 2, 3 and 6 of the header: how many lists, levels and free slots there are.
+// Of the header: how many lists, levels and free slots there are.
 fn lists(w: &[u32]) -> u32
     requires { ⌜ Passes (now w) ⌝ }
     ensures { λ r. ⌜ r ≡ length (decode (now (w .entry)) .lists) ⌝ }
 {
-    arena::header(w, 2)
+    arena::header(w, arena::LISTS_WORD)
 }
 
 fn levels(w: &[u32]) -> usize
     requires { ⌜ Passes (now w) ⌝ }
     ensures { λ r. ⌜ r ≡ decode (now (w .entry)) .levels ⌝ }
 {
-    arena::wide(arena::header(w, 3))
+    arena::wide(arena::header(w, arena::LEVELS_WORD))
 }
 
 fn free(w: &[u32]) -> u32
     requires { ⌜ Passes (now w) ⌝ }
     ensures { λ r. ⌜ r ≡ length (decode (now (w .entry)) .free) ⌝ }
 {
-    arena::header(w, 6)
+    arena::header(w, arena::FREE_WORD)
 }

@@ -6,8 +6,8 @@ use mathlib.Core.List.{List}
 use lib.ListN.{length, take, drop}
 use Rattle.model.specs.Nodes.{node, Sorted}
 use Rattle.model.specs.Lists.{insertAt}
-use Rattle.model.specs.Arena.{State, firstFree, listOf, putList, recordOf, slots-of}
-use Rattle.model.specs.Cells.{putAt}
+use Rattle.model.specs.Arena.{headerWords, countColumn, keyColumn, heightColumn, nextColumn, lastColumn, State, toColumn, width, firstFree, listOf, putList, recordOf, slots-of}
+use Rattle.model.specs.Cells.{place, putAt}
 use Rattle.model.specs.Passes.{decode, nodes}
 use Rattle.arena.specs.Mixed.{Mix}
 use Rattle.arena.specs.Owners.{Listed}
@@ -32,14 +32,14 @@ pub record Leaves (w : List ℕ) (m a i : ℕ) : Type 0 where
 -- The record of slot s lies in the slice.
 pub record Lies (w : List ℕ) (m s : ℕ) : Type 0 where
   pub small : m ≤ 16
-  pub inside : 8 + s * (4 + 2 * m) + (4 + 2 * m) ≤ length w
+  pub inside : place m s + width m ≤ length w
 
--- The header and columns 0 to 3 are as before, the links as in the model T.
+-- The header and the columns before the links are as before, the links as in the model T.
 pub record Rehung (before : List ℕ) (T : State) (m : ℕ) (after : List ℕ) : Type 0 where
-  pub front : take 8 after ≡ take 8 before
-  pub mixed : Mix m (slots-of (decode before)) (recordOf T) (recordOf (decode before)) 4 (4 + 2 * m) after
+  pub front : take headerWords after ≡ take headerWords before
+  pub mixed : Mix m (slots-of (decode before)) (recordOf T) (recordOf (decode before)) (toColumn 0) (width m) after
 
--- The words of columns 3 to 0 that change: of the head a, of slot e just before the node, and of the node's slot o.
+-- The words before the links that change: of the head a, of slot e just before the node, and of the node's slot o.
 abbrev pub columns : ℕ → List ℕ → ℕ → ℕ → ℕ → ℕ → ℕ → ℕ → ℕ → ℕ → ℕ → List ℕ
 columns m w a count last e next o key height after =
-    putAt m (putAt m (putAt m (putAt m (putAt m (putAt m w a 3 last) e 2 next) o 2 after) o 1 height) a 0 count) o 0 key
+    putAt m (putAt m (putAt m (putAt m (putAt m (putAt m w a lastColumn last) e nextColumn next) o nextColumn after) o heightColumn height) a countColumn count) o keyColumn key

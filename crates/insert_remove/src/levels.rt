@@ -1,8 +1,11 @@
 // The links that change where a node goes in or out: level by level, by a path of precursors.
+use arena::FAR;
 use arena::Index;
+use arena::LINK;
 use arena::Path;
 use arena::Rank;
 use arena::Slot;
+use arena::TO;
 use arena::cell;
 use arena::put;
 use arena::put2;
@@ -30,14 +33,22 @@ fn insert_level(w: &mut [u32], m: usize, l: usize, h: usize, s: Slot, o: Slot, b
     requires { ⌜ Level (now w) m l (s .0) (o .0) back ⌝ }
     ensures { λ _. ⌜ LevelIn m l h (s .0) (o .0) back (now (w .entry)) (now (w .exit)) ⌝ }
 {
-    let far = cell(w, m, s, 5 + 2 * l);
+    let far = cell(w, m, s, FAR + LINK * l);
     if h <= l {
-        put(w, m, s, 5 + 2 * l, longer(far));
+        put(w, m, s, FAR + LINK * l, longer(far));
         return;
     }
-    let to = cell(w, m, s, 4 + 2 * l);
-    put2(w, m, 4 + 2 * l, s, o.0, o, to);
-    put2(w, m, 5 + 2 * l, s, made(back + 1), o, nearer(far, back));
+    let to = cell(w, m, s, TO + LINK * l);
+    put2(w, m, TO + LINK * l, s, o.0, o, to);
+    put2(
+        w,
+        m,
+        FAR + LINK * l,
+        s,
+        made(back + 1),
+        o,
+        nearer(far, back),
+    );
 }
 
 // Level l, where a node of height h goes out.
@@ -46,14 +57,14 @@ fn remove_level(w: &mut [u32], m: usize, l: usize, h: usize, s: Slot, o: Slot, b
     ensures { λ _. ⌜ LevelOut m l h (s .0) (o .0) back (now (w .entry)) (now (w .exit)) ⌝ }
 {
     if h <= l {
-        let span = cell(w, m, s, 5 + 2 * l);
-        put(w, m, s, 5 + 2 * l, shorter(span));
+        let span = cell(w, m, s, FAR + LINK * l);
+        put(w, m, s, FAR + LINK * l, shorter(span));
         return;
     }
-    let to = cell(w, m, o, 4 + 2 * l);
-    let far = cell(w, m, o, 5 + 2 * l);
-    put2(w, m, 4 + 2 * l, s, to, o, Slot::NONE.0);
-    put2(w, m, 5 + 2 * l, s, farther(far, back), o, 0);
+    let to = cell(w, m, o, TO + LINK * l);
+    let far = cell(w, m, o, FAR + LINK * l);
+    put2(w, m, TO + LINK * l, s, to, o, Slot::NONE.0);
+    put2(w, m, FAR + LINK * l, s, farther(far, back), o, 0);
 }
 
 pub fn insert_links(

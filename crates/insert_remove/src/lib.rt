@@ -1,7 +1,14 @@
 // Module 6 of document 01: insertion and removal in an arena that passes.
 mod levels;
 
+use arena::COUNT;
+use arena::FIRST_FREE_WORD;
+use arena::FREE_WORD;
+use arena::HEIGHT;
 use arena::Index;
+use arena::KEY;
+use arena::LAST;
+use arena::NEXT;
 use arena::Path;
 use arena::Rank;
 use arena::Slot;
@@ -20,7 +27,7 @@ ghost use Prim.Native.Nat.{_+_, _≤_, _<_};
 ghost use lib.Dec.{eqb};
 ghost use lib.ListN.{length, set};
 ghost use Rattle.model.specs.Nodes.{N, keyAt};
-ghost use Rattle.model.specs.Arena.{encode};
+ghost use Rattle.model.specs.Arena.{headerWords, firstFreeWord, freeWord, encode};
 ghost use Rattle.model.specs.Calls.{doInsert, doRemove};
 ghost use Rattle.model.specs.Passes.{decode, nodes};
 ghost use Rattle.arena.specs.Owners.{Listed, Leads};
@@ -42,26 +49,26 @@ pub struct Record {
     pub next: u32,
 }
 
-// The columns 3 to 0; `next` is the next word of slot `end`, which stands before the node.
+// The columns before the links; `next` is the next word of slot `end`, which stands before the node.
 fn put_columns(w: &mut [u32], m: usize, head: Head, end: Slot, next: u32, node: Record)
     requires { ⌜ Lies (now w) m (head .slot .0) × (Lies (now w) m (end .0) × Lies (now w) m (node .slot .0)) ⌝ }
     ensures { λ _. ⌜ now (w .exit) ≡ columns m (now (w .entry)) (head .slot .0) (head .count) (head .last) (end .0) next (node .slot .0) (node .key) (node .height) (node .next) ⌝ }
 {
     let a = head.slot;
     let o = node.slot;
-    put(w, m, a, 3, head.last);
-    put2(w, m, 2, end, next, o, node.next);
-    put(w, m, o, 1, node.height);
-    put2(w, m, 0, a, head.count, o, node.key);
+    put(w, m, a, LAST, head.last);
+    put2(w, m, NEXT, end, next, o, node.next);
+    put(w, m, o, HEIGHT, node.height);
+    put2(w, m, KEY, a, head.count, o, node.key);
 }
 
 // The free chain's first slot and number.
 fn put_free(w: &mut [u32], first: u32, count: u32)
-    requires { ⌜ 8 ≤ length (now w) ⌝ }
-    ensures { λ _. ⌜ now (w .exit) ≡ set (set (now (w .entry)) 5 first) 6 count ⌝ }
+    requires { ⌜ headerWords ≤ length (now w) ⌝ }
+    ensures { λ _. ⌜ now (w .exit) ≡ set (set (now (w .entry)) firstFreeWord first) freeWord count ⌝ }
 {
-    put_header(w, 5, first);
-    put_header(w, 6, count);
+    put_header(w, FIRST_FREE_WORD, first);
+    put_header(w, FREE_WORD, count);
 }
 
 // The last node's slot, once the node in slot o stands at index i of n.
@@ -102,13 +109,13 @@ pub fn insert_before(
     requires { ⌜ Enters (now w) m (list .0) (i .0) key height × Leads (now w) m (list .0) (i .0) path ⌝ }
     ensures { λ _. ⌜ now (w .exit) ≡ encode (insertedAt (decode (now (w .entry))) (list .0) (i .0) key height) ⌝ }
 {
-    let o = Slot(header(w, 5));
-    let free = header(w, 6);
-    let rest = cell(w, m, o, 2);
-    let n = cell(w, m, list, 0);
+    let o = Slot(header(w, FIRST_FREE_WORD));
+    let free = header(w, FREE_WORD);
+    let rest = cell(w, m, o, NEXT);
+    let n = cell(w, m, list, COUNT);
     let end = path.end;
-    let next = cell(w, m, end, 2);
-    let last = last_with(i, n, o, cell(w, m, list, 3));
+    let next = cell(w, m, end, NEXT);
+    let last = last_with(i, n, o, cell(w, m, list, LAST));
     insert_links(w, m, list, key, height, i, o, path);
     let head = Head {
         slot: list,
@@ -131,14 +138,14 @@ pub fn remove_after(w: &mut [u32], m: usize, list: Slot, i: Index, path: Path) -
     ensures { λ r. ⌜ now (w .exit) ≡ encode (doRemove (decode (now (w .entry))) (list .0) (i .0)) × (r ≡ keyAt (nodes (now (w .entry)) (list .0)) (i .0)) ⌝ }
 {
     let end = path.end;
-    let o = Slot(cell(w, m, end, 2));
-    let key = cell(w, m, o, 0);
-    let height = cell(w, m, o, 1);
-    let next = cell(w, m, o, 2);
-    let n = cell(w, m, list, 0);
-    let last = last_without(i, n, end, cell(w, m, list, 3));
-    let first = header(w, 5);
-    let free = header(w, 6);
+    let o = Slot(cell(w, m, end, NEXT));
+    let key = cell(w, m, o, KEY);
+    let height = cell(w, m, o, HEIGHT);
+    let next = cell(w, m, o, NEXT);
+    let n = cell(w, m, list, COUNT);
+    let last = last_without(i, n, end, cell(w, m, list, LAST));
+    let first = header(w, FIRST_FREE_WORD);
+    let free = header(w, FREE_WORD);
     remove_links(w, m, list, i, o, wide(height), path);
     let head = Head {
         slot: list,

@@ -1,5 +1,7 @@
 // Module 8 of document 01: "the node of rank k gets as height the number of times 2 divides k, at most M; slots and keys stay."
+use arena::COUNT;
 use arena::Index;
+use arena::NEXT;
 use arena::Path;
 use arena::Rank;
 use arena::Slot;
@@ -63,7 +65,7 @@ fn relevel(w: &mut [u32], m: usize, list: Slot, i: Index, h: u32, path: Path) ->
     requires { ⌜ Leaves (now w) m (list .0) (i .0) × (Leads (now w) m (list .0) (i .0) path × (Full path × (h ≤ m))) ⌝ }
     ensures { λ q. ⌜ Relevelled (now (w .entry)) m (list .0) (i .0) h (now (w .exit)) q ⌝ }
 {
-    let slot = Slot(cell(w, m, path.end, 2));
+    let slot = Slot(cell(w, m, path.end, NEXT));
     let key = remove_after(w, m, list, i, path);
     insert_before(w, m, list, key, h, i, path);
     pass(path, slot, Rank::from_index(i), wide(h))
@@ -73,7 +75,7 @@ pub fn level(w: &mut [u32], m: usize, list: Slot)
     requires { ⌜ Listed (now w) m (list .0) ⌝ }
     ensures { λ _. ⌜ now (w .exit) ≡ encode (doLevel (decode (now (w .entry))) (list .0)) ⌝ }
 {
-    let n = cell(w, m, list, 0);
+    let n = cell(w, m, list, COUNT);
     let mut path = Path {
         slots: [list.0; 16],
         ranks: [0u32; 16],

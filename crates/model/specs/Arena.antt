@@ -14,12 +14,62 @@ pub record State : Type 0 where
   pub lists : List (List Node)
   pub free : List ℕ
 
--- "The mark "SKA" .. 4279123"; "word 1 the 16-bit version, 1"; "slots .. each of 4 + 2M words".
+-- "The mark "SKA" .. 4279123"; "word 1 the 16-bit version, 1".
 abbrev pub mark : ℕ
 mark = 4279123
 
 abbrev pub version : ℕ
 version = 1
+
+-- The header's words: mark, version, "then L, M, C, first free slot or N, number of free slots, 0".
+abbrev pub markWord : ℕ
+markWord = 0
+
+abbrev pub versionWord : ℕ
+versionWord = 1
+
+abbrev pub listsWord : ℕ
+listsWord = 2
+
+abbrev pub levelsWord : ℕ
+levelsWord = 3
+
+abbrev pub roomWord : ℕ
+roomWord = 4
+
+abbrev pub firstFreeWord : ℕ
+firstFreeWord = 5
+
+abbrev pub freeWord : ℕ
+freeWord = 6
+
+abbrev pub zeroWord : ℕ
+zeroWord = 7
+
+abbrev pub headerWords : ℕ
+headerWords = 8
+
+-- A record's words, by the column table: length or key, height, next, last node; "4+2l, 5+2l | link l"; "each of 4 + 2M words".
+abbrev pub countColumn : ℕ
+countColumn = 0
+
+abbrev pub keyColumn : ℕ
+keyColumn = 0
+
+abbrev pub heightColumn : ℕ
+heightColumn = 1
+
+abbrev pub nextColumn : ℕ
+nextColumn = 2
+
+abbrev pub lastColumn : ℕ
+lastColumn = 3
+
+abbrev pub toColumn : ℕ → ℕ
+toColumn l = 4 + 2 * l
+
+abbrev pub farColumn : ℕ → ℕ
+farColumn l = 5 + 2 * l
 
 abbrev pub width : ℕ → ℕ
 width M = 4 + 2 * M

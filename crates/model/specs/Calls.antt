@@ -10,7 +10,7 @@ use lib.ListN.{length, take, drop}
 use Rattle.model.specs.Nodes.{node, keyAt, slotAt, smaller}
 use Rattle.model.specs.Walks.{ended, isFound, placeOf, keyWalk}
 use Rattle.model.specs.Lists.{insert, removeAt, freed, append, middleOf, levelFrom}
-use Rattle.model.specs.Arena.{State, width, listOf, putList, encode, setUp}
+use Rattle.model.specs.Arena.{State, headerWords, width, listOf, putList, encode, setUp}
 use Rattle.model.specs.Passes.{decode, Ranges, Passes}
 
 -- ---- what each operation leaves ----
@@ -187,7 +187,7 @@ pub record Promise (c : Call) (before after : List ℕ) (r : Answer) : Type 0 wh
 -- "2: L, M, C or the slice length is wrong": what it is for them to be right.
 pub record Room (L M C n : ℕ) : Type 0 where
   pub ranges : Ranges L M C
-  pub size : n ≡ 8 + (L + C) * width M
+  pub size : n ≡ headerWords + (L + C) * width M
 
 pub record SetUpPromise (L M C : ℕ) (before after : List ℕ) (number : ℕ) : Type 0 where
   pub wrong : ¬ Room L M C (length before) → (number ≡ 2) × (after ≡ before)

@@ -2,20 +2,25 @@
 use Prim.Native.Nat.{ℕ, _+_, _*_, _≤_, _<_}
 use mathlib.Core.List.{List}
 use lib.ListN.{length, take, drop, getD, set}
+use Rattle.model.specs.Arena.{headerWords, width}
+
+-- Where the record of slot s begins: the header, "then slots 0 to L+C-1".
+abbrev pub place : ℕ → ℕ → ℕ
+place M s = headerWords + s * width M
 
 -- The record of slot s.
 abbrev pub recordAt : ℕ → List ℕ → ℕ → List ℕ
-recordAt M w s = take (4 + 2 * M) (drop (8 + s * (4 + 2 * M)) w)
+recordAt M w s = take (width M) (drop (place M s) w)
 
 -- The word in column c of slot s; the words with v stored there.
 unfoldable pub cellAt : ℕ → List ℕ → ℕ → ℕ → ℕ
-cellAt M w s c = getD w (8 + s * (4 + 2 * M) + c) 0
+cellAt M w s c = getD w (place M s + c) 0
 
 unfoldable pub putAt : ℕ → List ℕ → ℕ → ℕ → ℕ → List ℕ
-putAt M w s c v = set w (8 + s * (4 + 2 * M) + c) v
+putAt M w s c v = set w (place M s + c) v
 
 -- That word lies in the slice.
 pub record Cell (w : List ℕ) (m s c : ℕ) : Type 0 where
   pub small : m ≤ 16
-  pub column : c < 4 + 2 * m
-  pub inside : 8 + s * (4 + 2 * m) + c < length w
+  pub column : c < width m
+  pub inside : place m s + c < length w

@@ -7,30 +7,30 @@ use lib.Dec.{eqb}
 use lib.ListN.{length, getD}
 use Rattle.model.specs.Nodes.{Node, node, N, Sorted, Low}
 use Rattle.model.specs.Links.{distance, target}
-use Rattle.model.specs.Arena.{State, mark, version, width, lastSlot, encode, listOf}
+use Rattle.model.specs.Arena.{State, mark, version, markWord, versionWord, listsWord, levelsWord, roomWord, firstFreeWord, freeWord, zeroWord, headerWords, countColumn, keyColumn, heightColumn, nextColumn, lastColumn, toColumn, farColumn, width, lastSlot, encode, listOf}
 use Rattle.model.specs.Cells.{recordAt, cellAt}
 
 -- ---- the model that words hold ----
 -- n nodes from slot s on, by next; n free slots.
 abbrev pub chain : ℕ → List ℕ → ℕ → ℕ → List Node
 chain M w zero s = []
-chain M w (suc n) s = let r = recordAt M w s in node s (getD r 0 0) (getD r 1 0) ∷ chain M w n (getD r 2 0)
+chain M w (suc n) s = let r = recordAt M w s in node s (getD r keyColumn 0) (getD r heightColumn 0) ∷ chain M w n (getD r nextColumn 0)
 
 abbrev pub freeChain : ℕ → List ℕ → ℕ → ℕ → List ℕ
 freeChain M w zero s = []
-freeChain M w (suc n) s = s ∷ freeChain M w n (getD (recordAt M w s) 2 0)
+freeChain M w (suc n) s = s ∷ freeChain M w n (getD (recordAt M w s) nextColumn 0)
 
 -- The lists of n heads from slot a on.
 abbrev pub listsFrom : ℕ → List ℕ → ℕ → ℕ → List (List Node)
 listsFrom M w a zero = []
-listsFrom M w a (suc n) = let r = recordAt M w a in chain M w (getD r 0 0) (getD r 2 0) ∷ listsFrom M w (suc a) n
+listsFrom M w a (suc n) = let r = recordAt M w a in chain M w (getD r countColumn 0) (getD r nextColumn 0) ∷ listsFrom M w (suc a) n
 
 abbrev pub decode : List ℕ → State
 decode w = record {
-  levels = getD w 3 0;
-  room = getD w 4 0;
-  lists = listsFrom (getD w 3 0) w 0 (getD w 2 0);
-  free = freeChain (getD w 3 0) w (getD w 6 0) (getD w 5 0);
+  levels = getD w levelsWord 0;
+  room = getD w roomWord 0;
+  lists = listsFrom (getD w levelsWord 0) w 0 (getD w listsWord 0);
+  free = freeChain (getD w levelsWord 0) w (getD w freeWord 0) (getD w firstFreeWord 0);
 }
 
 abbrev pub nodes : List ℕ → ℕ → List Node
@@ -85,7 +85,7 @@ pub record Passes (w : List ℕ) : Type 0 where
 -- The slot that n steps by word 2 lead to from slot s.
 abbrev pub after : ℕ → List ℕ → ℕ → ℕ → ℕ
 after M w zero s = s
-after M w (suc n) s = after M w n (cellAt M w s 2)
+after M w (suc n) s = after M w n (cellAt M w s nextColumn)
 
 -- n steps by word 2 from slot s go through node slots only, and end at N.
 pub record Chained (L M C : ℕ) (w : List ℕ) (n s : ℕ) : Type 0 where
@@ -94,35 +94,35 @@ pub record Chained (L M C : ℕ) (w : List ℕ) (n s : ℕ) : Type 0 where
 
 -- The word pair at level l of slot s is the link of an owner that `ys` follow; is absent.
 pub record LinkIs (M : ℕ) (w : List ℕ) (s l : ℕ) (ys : List Node) : Type 0 where
-  pub to : cellAt M w s (4 + 2 * l) ≡ target (suc l) ys
-  pub far : cellAt M w s (5 + 2 * l) ≡ distance (suc l) ys
+  pub to : cellAt M w s (toColumn l) ≡ target (suc l) ys
+  pub far : cellAt M w s (farColumn l) ≡ distance (suc l) ys
 
 pub record Absent (M : ℕ) (w : List ℕ) (s l : ℕ) : Type 0 where
-  pub to : cellAt M w s (4 + 2 * l) ≡ N
-  pub far : cellAt M w s (5 + 2 * l) ≡ 0
+  pub to : cellAt M w s (toColumn l) ≡ N
+  pub far : cellAt M w s (farColumn l) ≡ 0
 
 pub record ClausesOf (L M C : ℕ) (w : List ℕ) : Type 0 where
   -- "length and header are as above"
-  pub size : length w ≡ 8 + (L + C) * width M
-  pub is-mark : getD w 0 0 ≡ mark
-  pub is-version : getD w 1 0 ≡ version
+  pub size : length w ≡ headerWords + (L + C) * width M
+  pub is-mark : getD w markWord 0 ≡ mark
+  pub is-version : getD w versionWord 0 ≡ version
   pub ranges : Ranges L M C
-  pub last-word : getD w 7 0 ≡ 0
+  pub last-word : getD w zeroWord 0 ≡ 0
   -- "each chain from a head takes exactly its length in steps, through node slots only, and ends at N"
-  pub chains : (a : ℕ) → a < L → Chained L M C w (cellAt M w a 0) (cellAt M w a 2)
+  pub chains : (a : ℕ) → a < L → Chained L M C w (cellAt M w a countColumn) (cellAt M w a nextColumn)
   -- "the last node is the one named (N for an empty list)"
-  pub lasts : (a : ℕ) → a < L → cellAt M w a 3 ≡ lastSlot (nodes w a)
+  pub lasts : (a : ℕ) → a < L → cellAt M w a lastColumn ≡ lastSlot (nodes w a)
   -- "keys never fall"
   pub sorted : (a : ℕ) → a < L → Sorted (nodes w a)
   -- "each node slot is in exactly one list or on the free chain"
   pub once : (s : ℕ) → L ≤ s → s < L + C → timesAll s (decode w .lists) + timesFree s (decode w .free) ≡ 1
   -- "the free chain has exactly the stated number of node slots and ends at N"
-  pub frees : Chained L M C w (getD w 6 0) (getD w 5 0)
+  pub frees : Chained L M C w (getD w freeWord 0) (getD w firstFreeWord 0)
   -- "every record has its column's form": heads, nodes in a list, free nodes
-  pub head-height : (a : ℕ) → a < L → cellAt M w a 1 ≡ M
+  pub head-height : (a : ℕ) → a < L → cellAt M w a heightColumn ≡ M
   pub node-height : (a : ℕ) → a < L → Low M (nodes w a)
-  pub node-zero : (a : ℕ) (aa : List Node) (y : Node) (ys : List Node) → a < L → nodes w a ≡ aa ++ y ∷ ys → cellAt M w (y .slot) 3 ≡ 0
-  pub free-form : (gs : List ℕ) (f : ℕ) (fs : List ℕ) → decode w .free ≡ gs ++ f ∷ fs → (cellAt M w f 0 ≡ 0) × (cellAt M w f 1 ≡ N) × (cellAt M w f 3 ≡ 0)
+  pub node-zero : (a : ℕ) (aa : List Node) (y : Node) (ys : List Node) → a < L → nodes w a ≡ aa ++ y ∷ ys → cellAt M w (y .slot) lastColumn ≡ 0
+  pub free-form : (gs : List ℕ) (f : ℕ) (fs : List ℕ) → decode w .free ≡ gs ++ f ∷ fs → (cellAt M w f keyColumn ≡ 0) × (cellAt M w f heightColumn ≡ N) × (cellAt M w f lastColumn ≡ 0)
   pub free-links : (gs : List ℕ) (f : ℕ) (fs : List ℕ) → decode w .free ≡ gs ++ f ∷ fs → (l : ℕ) → l < M → Absent M w f l
   -- "the link at level l of a head, or of a node of height above l, goes to the next node of height above l with the difference of ranks as
   -- distance, or is absent if there is none"
@@ -133,4 +133,4 @@ pub record ClausesOf (L M C : ℕ) (w : List ℕ) : Type 0 where
 
 -- L, M and C are the header's.
 abbrev pub Clauses : List ℕ → Type 0
-Clauses w = ClausesOf (getD w 2 0) (getD w 3 0) (getD w 4 0) w
+Clauses w = ClausesOf (getD w listsWord 0) (getD w levelsWord 0) (getD w roomWord 0) w

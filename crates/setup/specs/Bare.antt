@@ -7,8 +7,8 @@ use mathlib.Core.List.{List, _∷_}
 use lib.Dec.{eqb}
 use lib.ListN.{length, take, drop, getD}
 use Rattle.model.specs.Nodes.{N}
-use Rattle.model.specs.Arena.{absent, recordOf, setUp}
-use Rattle.model.specs.Cells.{cellAt}
+use Rattle.model.specs.Arena.{headerWords, width, absent, recordOf, setUp}
+use Rattle.model.specs.Cells.{place, cellAt}
 use Rattle.setup.specs.declared.Setup.{Setup}
 use Rattle.setup.specs.declared.Setup.the-variants.{Done, Wrong}
 
@@ -27,21 +27,21 @@ bareWord c a b e d = cond (eqb c 0) a (cond (eqb c 1) b (cond (eqb c 2) e (cond 
 -- The record of slot s lies in the slice.
 pub record Inside (w : List ℕ) (m s : ℕ) : Type 0 where
   pub small : m ≤ 16
-  pub room : 8 + s * (4 + 2 * m) + (4 + 2 * m) ≤ length w
+  pub room : place m s + width m ≤ length w
 
 -- The record of slot s is R, and every other record is as it was.
 pub record Written (M : ℕ) (before : List ℕ) (s : ℕ) (R : List ℕ) (after : List ℕ) : Type 0 where
   pub size : length after ≡ length before
-  pub here : (c : ℕ) → c < 4 + 2 * M → cellAt M after s c ≡ getD R c 0
-  pub there : (z c : ℕ) → z ≢ s → c < 4 + 2 * M → cellAt M after z c ≡ cellAt M before z c
+  pub here : (c : ℕ) → c < width M → cellAt M after s c ≡ getD R c 0
+  pub there : (z c : ℕ) → z ≢ s → c < width M → cellAt M after z c ≡ cellAt M before z c
 
 -- The first k of n records are a new arena's.
 pub record Filled (L M n : ℕ) (before : List ℕ) (k : ℕ) (after : List ℕ) : Type 0 where
   pub size : length after ≡ length before
-  pub records : (s c : ℕ) → s < k → c < 4 + 2 * M → cellAt M after s c ≡ getD (recordOf (setUp L M (n - L)) s) c 0
+  pub records : (s c : ℕ) → s < k → c < width M → cellAt M after s c ≡ getD (recordOf (setUp L M (n - L)) s) c 0
 
 -- The first eight words are H, and the others are as they were.
 pub record HeaderSet (before H after : List ℕ) : Type 0 where
   pub size : length after ≡ length before
-  pub front : take 8 after ≡ H
-  pub rest : drop 8 after ≡ drop 8 before
+  pub front : take headerWords after ≡ H
+  pub rest : drop headerWords after ≡ drop headerWords before

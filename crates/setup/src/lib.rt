@@ -2,7 +2,7 @@
 ghost use mathlib.Core.Path.{_≡_};
 ghost use Prim.Native.Nat.{_+_, _-_, _*_, _≤_, _<_};
 ghost use lib.ListN.{length, take};
-ghost use Rattle.model.specs.Arena.{header, encode, setUp, recordOf};
+ghost use Rattle.model.specs.Arena.{headerWords, width, header, encode, setUp, recordOf};
 ghost use Rattle.model.specs.Passes.{Ranges};
 ghost use Rattle.model.specs.Calls.{Room, SetUpPromise};
 ghost use Rattle.arena.specs.Says.{Says};
@@ -26,19 +26,19 @@ pub struct Bare {
 fn bare_word(c: usize, f: Bare) -> u32
     ensures { λ r. ⌜ r ≡ bareWord c (f .a) (f .b) (f .e) (f .d) ⌝ }
 {
-    if c == 0 {
+    if c == arena::KEY {
         return f.a;
     }
-    if c == 1 {
+    if c == arena::HEIGHT {
         return f.b;
     }
-    if c == 2 {
+    if c == arena::NEXT {
         return f.e;
     }
-    if c == 3 {
+    if c == arena::LAST {
         return f.d;
     }
-    if c % 2 == 0 {
+    if c % arena::LINK == 0 {
         return Slot::NONE.0;
     }
     0
@@ -49,7 +49,7 @@ fn write_record(w: &mut [u32], m: usize, s: Slot, f: Bare)
     ensures { λ _. ⌜ Written m (now (w .entry)) (s .0) (bareWords m (f .a) (f .b) (f .e) (f .d)) (now (w .exit)) ⌝ }
 {
     let mut c: usize = 0;
-    while c < 4 + 2 * m {
+    while c < arena::TO + arena::LINK * m {
         arena::put(w, m, s, c, bare_word(c, f));
         c += 1;
     }
@@ -86,7 +86,7 @@ fn form(s: u32, l: u32, m: u32, n: u32) -> Bare
 
 fn write_records(w: &mut [u32], l: u32, m: u32, n: u32)
     requires { ⌜ (l ≤ n) × (n ≤ 65551) × (m ≤ 16) ⌝ }
-    requires { ⌜ length (now w) ≡ 8 + n * (4 + 2 * m) ⌝ }
+    requires { ⌜ length (now w) ≡ headerWords + n * width m ⌝ }
     ensures { λ _. ⌜ Filled l m n (now (w .entry)) n (now (w .exit)) ⌝ }
 {
     let levels = arena::wide(m);
@@ -98,18 +98,18 @@ fn write_records(w: &mut [u32], l: u32, m: u32, n: u32)
 }
 
 fn write_header(w: &mut [u32], l: u32, m: u32, c: u32)
-    requires { ⌜ 8 ≤ length (now w) ⌝ }
+    requires { ⌜ headerWords ≤ length (now w) ⌝ }
     requires { ⌜ 1 ≤ c ⌝ }
     ensures { λ _. ⌜ HeaderSet (now (w .entry)) (header (setUp l m c)) (now (w .exit)) ⌝ }
 {
-    w[0] = arena::MARK;
-    w[1] = arena::VERSION;
-    w[2] = l;
-    w[3] = m;
-    w[4] = c;
-    w[5] = l;
-    w[6] = c;
-    w[7] = 0;
+    w[arena::MARK_WORD] = arena::MARK;
+    w[arena::VERSION_WORD] = arena::VERSION;
+    w[arena::LISTS_WORD] = l;
+    w[arena::LEVELS_WORD] = m;
+    w[arena::ROOM_WORD] = c;
+    w[arena::FIRST_FREE_WORD] = l;
+    w[arena::FREE_WORD] = c;
+    w[arena::ZERO_WORD] = 0;
 }
 
 // Whether L, M, C and the slice's length are right; the ranges come before any product.

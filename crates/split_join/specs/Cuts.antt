@@ -6,13 +6,15 @@ use mathlib.Core.List.{List, [], _++_}
 use lib.ListN.{length}
 use Rattle.model.specs.Nodes.{Sorted}
 use Rattle.model.specs.Passes.{nodes}
+use Rattle.model.specs.Arena.{farColumn}
+use Rattle.model.specs.Cells.{place}
 use Rattle.arena.specs.Owners.{Listed}
 
 -- The link of level l of slot s lies in the slice.
 pub record LinkIn (w : List ℕ) (m s l : ℕ) : Type 0 where
   pub small : m ≤ 16
   pub level : l < m
-  pub inside : 8 + s * (4 + 2 * m) + (5 + 2 * l) < length w
+  pub inside : place m s + farColumn l < length w
 
 -- List a can be split at index i into the empty list b.
 pub record Splits (w : List ℕ) (m a b i : ℕ) : Type 0 where

@@ -12,12 +12,11 @@ use visitor::OrdIndexVisitor;
 
 const LIST: Slot = Slot(0);
 
-// Word 3 of the header.
 fn levels(w: &[u32]) -> usize
     requires { ⌜ Passes (now w) ⌝ }
     ensures { λ m. ⌜ Listed (now (w .entry)) m 0 ⌝ }
 {
-    arena::wide(arena::header(w, 3))
+    arena::wide(arena::header(w, arena::LEVELS_WORD))
 }
 
 fn by_key(w: &[u32], m: usize, key: u32, allowance: u32)

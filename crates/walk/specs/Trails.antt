@@ -7,6 +7,7 @@ use Rattle.model.specs.Nodes.{N, slotAt, smaller}
 use Rattle.model.specs.Walks.{isFound, keyWalk}
 use Rattle.model.specs.Cells.{cellAt}
 use Rattle.model.specs.Passes.{nodes}
+use Rattle.model.specs.Arena.{keyColumn}
 use Rattle.arena.specs.Owners.{Leads}
 use Rattle.walk.specs.declared.Tracer.{Tracer}
 use Rattle.walk.specs.declared.Trace.{Trace}
@@ -19,7 +20,7 @@ use Rattle.walk.specs.Standing.{At, Sought}
 
 -- The key of the bound is not below t.
 abbrev pub Bound : List ℕ → ℕ → ℕ → ℕ → Type 0
-Bound w m t b = b < N → t ≤ cellAt m w b 0
+Bound w m t b = b < N → t ≤ cellAt m w b keyColumn
 
 -- The walk for target t stands no further than the number of smaller keys.
 pub record Begun (w : List ℕ) (m a h t : ℕ) (v : Tracer) : Type 0 where

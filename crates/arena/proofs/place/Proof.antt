@@ -1,29 +1,32 @@
 -- `arena::place` meets its contract.
 -- A slot is a u32 and a record has at most 36 words, so the product fits a usize.
-use Prim.Native.Nat.{ℕ, _+_, _*_, _≤_}
+use Prim.Native.Nat.{_≤_}
+use mathlib.Core.Path.{ap}
 use native.Mathlib.Nat.{mul-le-mul-left}
 use native.Mathlib.Omega.{arith}
+use Rattle.model.specs.Arena.{width}
 use borrow.Author.Needs.{needs}
 use Rattle.arena.proofs.place.Statement.{statement}
 use Rattle.arena.proofs.place.Tie as tie
 
-cast-i : tie.Need-cast-i
-cast-i c = search needs
+wide-requires : tie.Need-wide-requires
+wide-requires c κs = search needs
+
+width-requires : tie.Need-width-requires
+width-requires c κs = search needs
 
 mul-result : tie.Need-mul-result
-mul-result c = search needs
+mul-result c =
+    let l : width (c .before .before .args .m) ≤ 36 = omega (arith, c .before .before .pre) in
+    rw (c .before .wide .ensures, c .width .ensures) (omega (arith, mul-le-mul-left (c .before .before .args .s .0) l))
 
 add-result : tie.Need-add-result
-add-result c = search needs
-
-mul-result-2 : tie.Need-mul-result-2
-mul-result-2 c = let l : 4 + 2 * c .before .args .m ≤ 36 = omega (arith, c .before .pre) in omega (arith, mul-le-mul-left (c .before .args .s .0) l)
-
-add-result-2 : tie.Need-add-result-2
-add-result-2 c = let l : 4 + 2 * c .before .args .m ≤ 36 = omega (arith, c .before .pre) in omega (arith, mul-le-mul-left (c .before .args .s .0) l)
+add-result c =
+    let l : width (c .before .before .args .m) ≤ 36 = omega (arith, c .before .before .pre) in
+    rw (c .before .wide .ensures, c .width .ensures) (omega (arith, mul-le-mul-left (c .before .before .args .s .0) l))
 
 returns : tie.Need-returns
-returns c = search needs
+returns c = cc
 
 pub place-spec : {M : Type 1} → statement M
-place-spec = tie.close (tie.spec cast-i mul-result add-result mul-result-2 add-result-2 returns)
+place-spec = tie.close (tie.spec wide-requires width-requires mul-result add-result returns)

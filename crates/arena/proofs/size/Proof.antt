@@ -14,17 +14,14 @@ wide-requires c κs = search needs
 wide-requires-2 : tie.Need-wide-requires-2
 wide-requires-2 c κs = search needs
 
-mul-width : tie.Need-mul-width
-mul-width c = search needs
-
-add-width : tie.Need-add-width
-add-width c = search needs
+width-requires : tie.Need-width-requires
+width-requires c κs = rw (c .wide2 .ensures) (omega (arith, c .before .before .pre))
 
 mul-result : tie.Need-mul-result
-mul-result c = rw (c .wide2 .ensures, c .before .wide .ensures) (omega (arith, few _ _ _ (c .before .before .pre)))
+mul-result c = rw (c .before .before .wide .ensures, c .width .ensures, c .before .wide2 .ensures) (omega (arith, few _ _ _ (c .before .before .before .pre)))
 
 add-result : tie.Need-add-result
-add-result c = rw (c .wide2 .ensures, c .before .wide .ensures) (omega (arith, few _ _ _ (c .before .before .pre)))
+add-result c = rw (c .before .before .wide .ensures, c .width .ensures, c .before .wide2 .ensures) (omega (arith, few _ _ _ (c .before .before .before .pre)))
 
 returns : tie.Need-returns
 returns c = cc
@@ -32,12 +29,4 @@ returns c = cc
 pub size-spec : {M : Type 1} → statement M
 size-spec =
     tie.close
-    (tie.spec
-    add-wide
-    wide-requires
-    wide-requires-2
-    mul-width
-    add-width
-    mul-result
-    add-result
-    returns)
+    (tie.spec add-wide wide-requires wide-requires-2 width-requires mul-result add-result returns)
