@@ -107,6 +107,11 @@ pub const FAR: usize = 5;
 
 pub const LINK: usize = 2;
 
+// The same by stage, which is the level and one: STAGE_TO + LINK * (l + 1) is TO + LINK * l.
+pub const STAGE_TO: usize = TO - LINK;
+
+pub const STAGE_FAR: usize = FAR - LINK;
+
 pub fn wide(x: u32) -> usize
     ensures { λ r. ⌜ r ≡ x ⌝ }
 {

@@ -11,7 +11,7 @@ use Rattle.arena_check.specs.declared.Dims.{Dims}
 use Rattle.arena.specs.Says.{Says}
 use Rattle.arena_check.specs.Sizes.{Within}
 use Rattle.arena_check.specs.Free.{AbsentFrom, FreeNode, FreeFrom}
-use Rattle.arena_check.proofs.Answers.{yes, no, say-yes, say-no}
+use Rattle.arena.proofs.Saying.{yes, no, say-yes, say-no}
 
 -- ---- one node ----
 pub free-within : (d : Dims) (s : ℕ) (b : Bool) → Says b (Within d s) → b ≡ true → s < d .lists + d .room

@@ -12,7 +12,7 @@ use Rattle.arena_check.specs.declared.Dims.{Dims}
 use Rattle.arena.specs.Says.{Says}
 use Rattle.arena_check.specs.Answers.{Below}
 use Rattle.arena_check.specs.Sizes.{lengths, Differ}
-use Rattle.arena_check.proofs.Answers.{say-yes, say-no}
+use Rattle.arena.proofs.Saying.{say-yes, say-no}
 use Rattle.arena_check.proofs.Levels.{Upto, upto-more}
 
 pub lengths-each : (M : ℕ) (w : List ℕ) (n a : ℕ) → a < n → cellAt M w a 0 ≤ lengths M w n

@@ -16,7 +16,7 @@ use Rattle.arena.specs.Says.{Says}
 use Rattle.arena_check.specs.Answers.{Below}
 use Rattle.arena_check.specs.Free.{AbsentFrom}
 use Rattle.arena_check.specs.Walked.{Spans, Meets, Closes, Owners, filled}
-use Rattle.arena_check.proofs.Answers.{yes, no, say-yes, say-no}
+use Rattle.arena.proofs.Saying.{yes, no, say-yes, say-no}
 
 -- P of each level from h up to l
 pub record Upto (h M l : ℕ) (P : ℕ → Type 0) : Type 0 where

@@ -1,4 +1,3 @@
-pub mod Answers
 pub mod Sizes
 pub mod Levels
 pub mod Free

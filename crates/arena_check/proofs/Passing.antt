@@ -23,7 +23,7 @@ use Rattle.arena_check.specs.Answers.{Below}
 use Rattle.arena_check.specs.Sizes.{dimsOf, Within, lengths, Differ}
 use Rattle.arena_check.specs.Free.{AbsentFrom}
 use Rattle.arena_check.specs.Whole.{WholeOf, Whole}
-use Rattle.arena_check.proofs.Answers.{yes}
+use Rattle.arena.proofs.Saying.{yes}
 use Rattle.arena_check.proofs.Formed.{run, run-chain, Form, Formed}
 use Rattle.arena_check.proofs.Freeing.{free-chained, free-form, forms-free}
 use Rattle.arena_check.proofs.Listing.{Facts, list-facts, facts-list, formed-chained, formed-low, formed-mid, forms-formed}

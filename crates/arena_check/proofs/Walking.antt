@@ -13,7 +13,7 @@ use Rattle.arena.specs.Says.{Says}
 use Rattle.arena_check.specs.Sizes.{Within, Shape}
 use Rattle.arena_check.specs.Free.{AbsentFrom}
 use Rattle.arena_check.specs.Walked.{Closes, Loose, Owners, NodeOk, Walked, WalkOk, ListOk, filled}
-use Rattle.arena_check.proofs.Answers.{yes, no, say-yes, say-no}
+use Rattle.arena.proofs.Saying.{yes, no, say-yes, say-no}
 use Rattle.arena_check.proofs.Levels.{owners-filled}
 
 -- ---- one node ----

@@ -11,7 +11,7 @@ use Rattle.arena_check.specs.Sizes.{dimsOf, Shape, Headed, lengths, Diff
 use Rattle.arena_check.specs.Free.{FreeFrom}
 use Rattle.arena_check.specs.Walked.{ListOk}
 use Rattle.arena_check.specs.Whole.{WholeOf, Whole}
-use Rattle.arena_check.proofs.Answers.{yes, no, say-no}
+use Rattle.arena.proofs.Saying.{yes, no, say-no}
 
 pub no-header : (w : List ℕ) (b : Bool) → Says b (Headed w) → b ≡ false → Says false (Whole w)
 no-header w b h e = say-no (λ f. no h e (f .headed))

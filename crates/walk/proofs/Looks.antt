@@ -1,6 +1,6 @@
 -- What the words say where a walk stands: which words it may read, and what a look at a link or at next finds.
 -- Rests on arena's Places and model's Steps.
-use Prim.Native.Nat.{ℕ, zero, suc, _+_, _*_, _≤_, _<_}
+use Prim.Native.Nat.{ℕ, zero, suc, _+_, _-_, _*_, _≤_, _<_}
 use mathlib.Core.Path.{_≡_, refl, sym, ap, _∙_}
 use mathlib.Core.List.{List, [], _∷_}
 use lib.ListN.{length, drop, getD, length-drop}
@@ -129,15 +129,15 @@ module _ {w : List ℕ} {m a i h s r base : ℕ} (g : At w m a i h s r) (p : Pla
   pub inside : (c at : ℕ) → at ≡ base + c → c < 4 + 2 * m → at < length w
   inside c at f k = omega (arith, p .is, cell-here g c k .inside)
 
-  -- a level's link is in the record
-  pub column : (l : ℕ) → suc l ≡ h → 5 + 2 * l < 4 + 2 * m
-  column l e = omega (arith, g .owner .level, g .levels)
+  -- the link of stage h, which is that of level h - 1, is in the record
+  pub stage-in : 0 < h → (at : ℕ) → at ≤ base + 3 + 2 * h → at < length w
+  stage-in z at f = omega (arith, inside (5 + 2 * (h - 1)) (base + (5 + 2 * (h - 1))) refl (omega (arith, g .owner .level, g .levels)))
 
-  pub to-read : (l : ℕ) → suc l ≡ h → (at : ℕ) → at ≡ base + (4 + 2 * l) → {v : ℕ} → v ≡ getD w at 0 → v ≡ target h (drop r (nodes w a))
-  to-read l e at f q = word-is w p (4 + 2 * l) at f q ∙ to-word g l e
+  pub to-read : 0 < h → {at v : ℕ} → at ≡ base + 2 + 2 * h → v ≡ getD w at 0 → v ≡ target h (drop r (nodes w a))
+  to-read z {at} f q = word-is w p (4 + 2 * (h - 1)) at (omega arith) q ∙ to-word g (h - 1) (omega arith)
 
-  pub far-read : (l : ℕ) → suc l ≡ h → (at : ℕ) → at ≡ base + (5 + 2 * l) → {v : ℕ} → v ≡ getD w at 0 → v ≡ distance h (drop r (nodes w a))
-  far-read l e at f q = word-is w p (5 + 2 * l) at f q ∙ far-word g l e
+  pub far-read : 0 < h → {at v : ℕ} → at ≡ base + 3 + 2 * h → v ≡ getD w at 0 → v ≡ distance h (drop r (nodes w a))
+  far-read z {at} f q = word-is w p (5 + 2 * (h - 1)) at (omega arith) q ∙ far-word g (h - 1) (omega arith)
 
   pub next-read : {at : ℕ} → at ≡ base + 2 → {v : ℕ} → v ≡ getD w at 0 → v ≡ target 0 (drop r (nodes w a))
   next-read {at} f q = word-is w p 2 at f q ∙ next-word g

@@ -7,7 +7,7 @@ use lib.Seq.{getD-drop, getD-take, length-take-le, getD-set-same, getD-set-other
 use native.Mathlib.Omega.{arith}
 use borrow.Author.Tests.{le-leb}
 use Rattle.model.specs.Nodes.{Node, node, N, at, slotAt}
-use Rattle.model.specs.Links.{further, distance}
+use Rattle.model.specs.Links.{further, distance, target}
 use Rattle.model.specs.Walks.{last}
 use Rattle.model.specs.Cells.{cellAt}
 use Rattle.model.specs.Passes.{nodes}
@@ -16,7 +16,7 @@ use Rattle.model.proofs.Walk.{last-le}
 use Rattle.model.proofs.Precursor.{last-node}
 use Rattle.arena.specs.Owners.{Listed, Before}
 use Rattle.walk.specs.Standing.{At, Sought}
-use Rattle.walk.proofs.Looks.{nothing, there, look, to-word, far-word, next-word}
+use Rattle.walk.proofs.Looks.{nothing, there, look, next-word}
 
 last-ge : (h : ℕ) (aa : List Node) (j : ℕ) → j < length aa → h ≤ at aa j .height → suc j ≤ last h aa
 last-ge h [] j l t = absurd (omega arith)
@@ -82,23 +82,17 @@ module _ {w : List ℕ} {m a i h s r : ℕ} (g : At w m a i h s r) where
             absurd (omega (arith, f (d .0), d .1))
       ]
 
--- ---- one look along a level ----
-module _ {w : List ℕ} {m a i l s r : ℕ} (g : At w m a i (suc l) s r) (far : ℕ) (e : far ≡ cellAt m w s (5 + 2 * l)) where
-  far-is : far ≡ distance (suc l) (drop r (nodes w a))
-  far-is = e ∙ far-word g l refl
+-- ---- one look at a link of stage h ----
+module _ {w : List ℕ} {m a i h s r : ℕ} (g : At w m a i h s r) {far : ℕ} (e : far ≡ distance h (drop r (nodes w a))) where
+  pub ends-here : ((0 < far) × (far ≤ i - r) → ⊥) → Sought w m a i h s r
+  ends-here n = sought g (λ y. elim (test far (i - r)) [ hit t q ↦ absurd (n (omega arith, q)) | miss t q ↦ omega (arith, g .before) ])
 
-  pub ends-here : far ≡ 0 → Sought w m a i (suc l) s r
-  ends-here z = sought g (λ y. absurd (omega (arith, far-is)))
-
-  pub ends-there : i - r < far → Sought w m a i (suc l) s r
-  ends-there z = sought g (λ y. omega (arith, far-is, g .before))
-
-  pub goes-on : (far ≡ 0 → ⊥) → far ≤ i - r → (to q : ℕ) → to ≡ cellAt m w s (4 + 2 * l) → q ≡ r + far → At w m a i (suc l) to q
-  goes-on ne le to q f p = elim (look (g .owner) to (f ∙ to-word g l refl)) [
-    | nothing x d ↦ absurd (ne (far-is ∙ d))
+  pub goes-on : (0 < far) × (far ≤ i - r) → {to q : ℕ} → to ≡ target h (drop r (nodes w a)) → q ≡ r + far → At w m a i h to q
+  goes-on n {to} {q} f p = elim (look (g .owner) to f) [
+    | nothing x d ↦ absurd (omega (arith, n .0))
     | there d x y o ↦
-        let u : suc (r + d) ≡ q = omega (arith, far-is, y) in
-        record { owner = rw u at o; levels = g .levels; before = omega (arith, g .before); within = g .within }
+        let u : suc (r + d) ≡ q = omega (arith, y) in
+        record { owner = rw u at o; levels = g .levels; before = omega (arith, g .before, n .1); within = g .within }
   ]
 
 -- ---- one step by next ----
@@ -132,19 +126,21 @@ noted-none e = record { long = e; rank = λ l p q. absurd (omega arith); slot = 
 pub noted-all : {w : List ℕ} {m a i k : ℕ} {slots ranks : List ℕ} → k ≤ 0 → Noted w m a i k slots ranks → Before w m a i slots ranks
 noted-all z n = record { rank = λ l q. n .rank l (omega arith) q; slot = λ l q. n .slot l (omega arith) q }
 
-pub noted-more : {w : List ℕ} {m a i k s r : ℕ} {slots ranks : List ℕ} (l : ℕ) → l + 1 ≡ k → l < 16 → Sought w m a i (suc l) s r
-    → Noted w m a i k slots ranks → Noted w m a i l (set slots l s) (set ranks l r)
-noted-more {w} {m} {a} {i} {k} {s} {r} {slots} {ranks} l e b f n =
+pub noted-more : {w : List ℕ} {m a i k s r : ℕ} {slots ranks : List ℕ} → 0 < k → k ≤ 16 → Sought w m a i k s r
+    → Noted w m a i k slots ranks → Noted w m a i (k - 1) (set slots (k - 1) s) (set ranks (k - 1) r)
+noted-more {k = zero} z b f n = absurd (omega arith)
+noted-more {w = w} {a = a} {k = suc l} {s = s} {r = r} {slots = slots} {ranks = ranks} z b f n =
+    let e : suc l - 1 ≡ l = omega arith in
     let gr : getD (set ranks l r) l 0 ≡ r = getD-set-same ranks l r 0 (omega (arith, n .long)) in
     let gs : getD (set slots l s) l 0 ≡ s = getD-set-same slots l s 0 (omega (arith, n .long)) in
-    record {
+    rw e (record {
       long = (length-set slots l s ∙ n .long .0, length-set ranks l r ∙ n .long .1);
       rank = λ j p q. elim (test (suc l) j) [
-        | hit t y ↦ getD-set-other ranks l j r 0 (λ z. omega arith) ∙ n .rank j (omega arith) q
+        | hit t y ↦ getD-set-other ranks l j r 0 (λ z. omega arith) ∙ n .rank j y q
         | miss t y ↦ let z : j ≡ l = omega arith in rw z (gr ∙ f .last-one)
       ];
       slot = λ j p q. elim (test (suc l) j) [
-        | hit t y ↦ getD-set-other slots l j s 0 (λ z. omega arith) ∙ n .slot j (omega arith) q ∙ ap (slotAt a (nodes w a)) (sym (getD-set-other ranks l j r 0 (λ z. omega arith)))
+        | hit t y ↦ getD-set-other slots l j s 0 (λ z. omega arith) ∙ n .slot j y q ∙ ap (slotAt a (nodes w a)) (sym (getD-set-other ranks l j r 0 (λ z. omega arith)))
         | miss t y ↦ let z : j ≡ l = omega arith in rw z (gs ∙ f .at .owner .slot-is ∙ ap (slotAt a (nodes w a)) (sym gr))
       ];
-    }
+    })

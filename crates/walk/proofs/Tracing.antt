@@ -1,7 +1,7 @@
 -- The walk by key with precursors: it goes on exactly while it stays at or before the number of smaller keys, so that it stops as the walk
--- by rank does, and its bound is never met. Rests on Seeking, Turns and model's theorems of the walk by key.
+-- by rank does, and its bound is never met. Rests on Seeking, Ahead and model's theorems of the walk by key.
 use Prim.Native.Nat.{ℕ, suc, _+_, _≤_, _<_}
-use mathlib.Core.Path.{_≡_, sym, ap, _∙_}
+use mathlib.Core.Path.{_≡_, refl, sym, ap, _∙_}
 use mathlib.Core.Bool.{Bool, true, false}
 use mathlib.Core.List.{List}
 use lib.Dec.{eqb}
@@ -81,17 +81,22 @@ module _ {w : List ℕ} {m a h t : ℕ} {v : Tracer} (g : Begun w m a h t v) (to
       | there d x y o ↦ omega (arith, f ∙ ap (λ (b : ℕ). cellAt m w b 0) z, g .bound (omega arith))
     ]
 
-    pub bound-met : t ≤ met → Bound w m t to
-    bound-met l = λ z. omega arith
+  -- the link is absent, or its key is not smaller
+  module _ (n : (to < N) × (cellAt m w to 0 < t) → ⊥) where
+    pub stops-here : Halted w m a h t v
+    stops-here = elim (look (g .at .owner) to e) [
+      | nothing x d ↦ stops-absent x
+      | there d x y o ↦ stops-other (λ z. omega arith) (cellAt m w to 0) refl (elim (test t (cellAt m w to 0)) [ hit q p ↦ p | miss q p ↦ absurd (n (x, p)) ])
+    ]
+
+    pub bound-here : Bound w m t to
+    bound-here z = elim (test t (cellAt m w to 0)) [ hit q p ↦ p | miss q p ↦ absurd (n (z, p)) ]
 
 pub begun-at-head : {w : List ℕ} {m a : ℕ} (t : ℕ) {v : Tracer} → v .slot .0 ≡ a → v .rank .0 ≡ 0 → v .bound .0 ≡ N → Listed w m a → Begun w m a m t v
 begun-at-head {w} {m} {a} t es er eb g = record { at = rw (es, er) (at-head g (smaller-le t (nodes w a))); bound = λ z. absurd (omega arith) }
 
 pub begun-down : {w : List ℕ} {m a h t : ℕ} {v : Tracer} → Begun w m a h t v → (k : ℕ) → k ≤ h → Begun w m a k t v
 begun-down g k l = record { at = down-to (g .at) k l; bound = g .bound }
-
-pub begun-below : {w : List ℕ} {m a l t : ℕ} {v : Tracer} → Halted w m a (suc l) t v → Begun w m a l t v
-begun-below {l = l} g = record { at = down-to (g .sought .at) l (omega arith); bound = g .bound }
 
 -- ---- where it ends ----
 module _ {w : List ℕ} {m a t : ℕ} {v : Tracer} (k : Halted w m a 0 t v) where

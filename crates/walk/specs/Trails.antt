@@ -5,18 +5,20 @@ use mathlib.Core.Bool.{Bool, true, false}
 use mathlib.Core.List.{List}
 use Rattle.model.specs.Nodes.{N, slotAt, smaller}
 use Rattle.model.specs.Walks.{isFound, keyWalk}
-use Rattle.model.specs.Cells.{cellAt}
+use Rattle.model.specs.Cells.{Cell, cellAt}
 use Rattle.model.specs.Passes.{nodes}
 use Rattle.model.specs.Arena.{keyColumn}
 use Rattle.arena.specs.Owners.{Leads}
 use Rattle.walk.specs.declared.Tracer.{Tracer}
-use Rattle.walk.specs.declared.Trace.{Trace}
-use Rattle.walk.specs.declared.Trace.the-variants.{On, Violation as Violated}
 use Rattle.walk.specs.declared.Outcome.{Outcome}
 use Rattle.walk.specs.declared.Outcome.the-variants.{Found, Missing}
 use Rattle.walk.specs.declared.Stop.{Stop}
 use Rattle.walk.specs.declared.Trail.{Trail}
 use Rattle.walk.specs.Standing.{At, Sought}
+
+-- Where a link leads: nowhere, or to a slot whose key can be read.
+abbrev pub Ahead : List ℕ → ℕ → ℕ → Type 0
+Ahead w m to = (to ≡ N → ⊥) → Cell w m to keyColumn
 
 -- The key of the bound is not below t.
 abbrev pub Bound : List ℕ → ℕ → ℕ → ℕ → Type 0
@@ -31,10 +33,6 @@ pub record Begun (w : List ℕ) (m a h t : ℕ) (v : Tracer) : Type 0 where
 pub record Halted (w : List ℕ) (m a h t : ℕ) (v : Tracer) : Type 0 where
   pub sought : Sought w m a (smaller t (nodes w a)) h (v .slot .0) (v .rank .0)
   pub bound : Bound w m t (v .bound .0)
-
-abbrev pub Traced : List ℕ → ℕ → ℕ → ℕ → ℕ → Trace → Type 0
-Traced w m a h t (On v) = Halted w m a h t v
-Traced w m a h t Violated = ⊥
 
 abbrev pub outcomeOf : Bool → Outcome
 outcomeOf true = Found

@@ -7,10 +7,13 @@ ghost use Rattle.model.specs.Lists.{middleOf};
 ghost use Rattle.model.specs.Passes.{nodes};
 ghost use Rattle.arena.specs.Owners.{Listed};
 use crate::Spot;
-use crate::index_mut::seek_level;
 use crate::index_mut::seek_next;
+use crate::index_mut::within;
 use arena::Index;
+use arena::LINK;
 use arena::Rank;
+use arena::STAGE_FAR;
+use arena::STAGE_TO;
 use arena::Slot;
 
 // The number of nodes of a list.
@@ -18,7 +21,7 @@ pub fn length(w: &[u32], m: usize, list: Slot) -> u32
     requires { ⌜ Listed (now w) m (list .0) ⌝ }
     ensures { λ r. ⌜ r ≡ length (nodes (now (w .entry)) (list .0)) ⌝ }
 {
-    arena::cell(w, m, list, 0)
+    arena::cell(w, m, list, arena::COUNT)
 }
 
 // The slot at a rank.
@@ -30,11 +33,20 @@ pub fn reach(w: &[u32], m: usize, list: Slot, target: Rank) -> Slot
         slot: list,
         rank: Rank::HEAD,
     };
+    let mut base = arena::place(m, list);
     let mut level = m;
     while 0 < level {
-        let l = level - 1;
-        v = seek_level(w, m, l, list, v, target);
-        level = l;
+        let far = arena::word(w, base + STAGE_FAR + LINK * level);
+        if within(far, target.0 - v.rank.0) {} else {
+            level = level - 1;
+            continue;
+        }
+        let to = Slot(arena::word(w, base + STAGE_TO + LINK * level));
+        v = Spot {
+            slot: to,
+            rank: v.rank.plus(far),
+        };
+        base = arena::place(m, to);
     }
     seek_next(w, m, list, v, target)
 }
@@ -45,7 +57,7 @@ pub fn read(w: &[u32], m: usize, list: Slot, i: Index) -> u32
     ensures { λ r. ⌜ r ≡ keyAt (nodes (now (w .entry)) (list .0)) (i .0) ⌝ }
 {
     let s = reach(w, m, list, Rank::from_index(i));
-    arena::cell(w, m, s, 0)
+    arena::cell(w, m, s, arena::KEY)
 }
 
 // The key at index floor((length - 1) / 2).

@@ -1,41 +1,36 @@
 // Module 3: the walk by rank, with the precursors and their ranks.
 ghost use mathlib.Core.Path.{_≡_};
-ghost use Prim.Native.Nat.{suc, _≤_};
+ghost use Prim.Native.Nat.{_≤_, _<_};
 ghost use lib.ListN.{length};
 ghost use Rattle.model.specs.Nodes.{slotAt};
 ghost use Rattle.model.specs.Passes.{nodes};
 ghost use Rattle.arena.specs.Owners.{Listed, Leads};
+ghost use Rattle.arena.specs.Says.{Says};
 ghost use Rattle.walk.specs.Ranks.{ByRank};
-ghost use Rattle.walk.specs.Standing.{At, Sought};
+ghost use Rattle.walk.specs.Standing.{At};
 use crate::Ended;
 use crate::Reached;
 use crate::Spot;
 use crate::index::length as count;
 use arena::Index;
+use arena::LINK;
 use arena::Path;
 use arena::Rank;
+use arena::STAGE_FAR;
+use arena::STAGE_TO;
 use arena::Slot;
 
-// Along level l, as far as rank `limit`.
-pub fn seek_level(w: &[u32], m: usize, l: usize, list: Slot, from: Spot, limit: Rank) -> Spot
-    requires { ⌜ At (now w) m (list .0) (limit .0) (suc l) (from .slot .0) (from .rank .0) ⌝ }
-    ensures { λ z. ⌜ Sought (now (w .entry)) m (list .0) (limit .0) (suc l) (z .slot .0) (z .rank .0) ⌝ }
+// Whether a link of distance `far`, which is 0 where it is absent, leads no more than `rest` ranks on.
+pub fn within(far: u32, rest: u32) -> bool
+    ensures { λ r. ⌜ Says r ((0 < far) × (far ≤ rest)) ⌝ }
 {
-    let mut v = from;
-    loop {
-        let far = arena::cell(w, m, v.slot, 5 + 2 * l);
-        if far == 0 {
-            return v;
-        }
-        if limit.0 - v.rank.0 < far {
-            return v;
-        }
-        let to = arena::cell(w, m, v.slot, 4 + 2 * l);
-        v = Spot {
-            slot: Slot(to),
-            rank: v.rank.plus(far),
-        };
+    if far == 0 {
+        return false;
     }
+    if rest < far {
+        return false;
+    }
+    true
 }
 
 // By next to rank `limit`.
@@ -45,7 +40,7 @@ pub fn seek_next(w: &[u32], m: usize, list: Slot, from: Spot, limit: Rank) -> Sl
 {
     let mut v = from;
     while v.rank.0 < limit.0 {
-        let to = arena::cell(w, m, v.slot, 2);
+        let to = arena::cell(w, m, v.slot, arena::NEXT);
         v = Spot {
             slot: Slot(to),
             rank: v.rank.plus(1),
@@ -66,13 +61,23 @@ pub fn seek(w: &[u32], m: usize, list: Slot, i: Index) -> Path
         slot: list,
         rank: Rank::HEAD,
     };
+    let mut base = arena::place(m, list);
     let mut level = m;
     while 0 < level {
-        let l = level - 1;
-        v = seek_level(w, m, l, list, v, limit);
-        slots[l] = v.slot.0;
-        ranks[l] = v.rank.0;
-        level = l;
+        let far = arena::word(w, base + STAGE_FAR + LINK * level);
+        if within(far, limit.0 - v.rank.0) {} else {
+            let l = level - 1;
+            slots[l] = v.slot.0;
+            ranks[l] = v.rank.0;
+            level = l;
+            continue;
+        }
+        let to = Slot(arena::word(w, base + STAGE_TO + LINK * level));
+        v = Spot {
+            slot: to,
+            rank: v.rank.plus(far),
+        };
+        base = arena::place(m, to);
     }
     let end = seek_next(w, m, list, v, limit);
     Path { slots, ranks, end }
@@ -104,7 +109,7 @@ pub fn by_rank(w: &[u32], m: usize, list: Slot, target: Rank) -> Reached
     let p = seek(w, m, list, target.to_index());
     let slots = p.slots;
     let ranks = p.ranks;
-    let to = arena::cell(w, m, p.end, 2);
+    let to = arena::cell(w, m, p.end, arena::NEXT);
     Reached {
         slots,
         ranks,

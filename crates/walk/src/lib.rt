@@ -59,8 +59,8 @@ pub enum Searched {
     Beyond(u32),
 }
 
-// A walk by key that notes precursors. `bound` is the node at which the last of them was noted, whose key was not smaller: the walk never
-// goes on to it. `Slot::NONE` stands for none.
+// A walk by key that notes precursors. `bound` is where the link of the last of them leads, `Slot::NONE` where it is absent: its key was not
+// smaller, so the walk never goes on to it.
 pub struct Tracer {
     pub slot: Slot,
     pub rank: Rank,
@@ -71,12 +71,6 @@ pub struct Tracer {
 pub enum Outcome {
     Found,
     Missing,
-    Violation,
-}
-
-// After a level.
-pub enum Trace {
-    On(Tracer),
     Violation,
 }
 

@@ -7,7 +7,10 @@ ghost use Rattle.walk.specs.Answers.{answerOf, Visits, Down};
 use crate::Hop;
 use crate::Searched;
 use crate::Visitor;
+use arena::LINK;
 use arena::Rank;
+use arena::STAGE_FAR;
+use arena::STAGE_TO;
 use arena::Slot;
 
 // From the head down the levels: along each while the link's key is smaller.
@@ -23,11 +26,9 @@ fn descend(w: &[u32], m: usize, list: Slot, key: u32, allowance: u32) -> Hop
     };
     let mut level = m;
     while 0 < level {
-        let l = level - 1;
-        let at = v.base + 4 + 2 * l;
-        let to = arena::word(w, at);
+        let to = arena::word(w, v.base + STAGE_TO + LINK * level);
         if to == Slot::NONE.0 {
-            level = l;
+            level = level - 1;
             continue;
         }
         if v.left == 0 {
@@ -38,10 +39,10 @@ fn descend(w: &[u32], m: usize, list: Slot, key: u32, allowance: u32) -> Hop
         let there = arena::place(m, next);
         let met = arena::word(w, there);
         if key <= met {
-            level = l;
+            level = level - 1;
             continue;
         }
-        let far = arena::word(w, at + 1);
+        let far = arena::word(w, v.base + STAGE_FAR + LINK * level);
         let rank = v.rank.plus(far);
         v.rank = rank;
         v.slot = next;
@@ -57,7 +58,7 @@ fn follow(w: &[u32], m: usize, list: Slot, key: u32, allowance: u32, from: Visit
 {
     let mut u = from;
     loop {
-        let to = arena::word(w, u.base + 2);
+        let to = arena::word(w, u.base + arena::NEXT);
         if to == Slot::NONE.0 {
             return Searched::Missing(u.rank.after(), allowance - u.left);
         }

@@ -1,59 +1,106 @@
 -- `walk::index_mut::seek` meets its contract.
--- The invariant: the walk stands no further than the limit, and the precursors of the levels above are noted.
-use Prim.Native.Nat.{suc, _-_}
+-- The invariant: the walk stands no further than the limit, and the precursors of the levels above are noted. The measure: levels and ranks left.
+use Prim.Native.Nat.{_+_, _-_, _*_}
 use mathlib.Core.Path.{refl}
 use native.Mathlib.Omega.{arith}
-use Rattle.walk.specs.Standing.{At}
-use Rattle.walk.proofs.Looks.{small, down-to}
-use Rattle.walk.proofs.Seeking.{at-head, Noted, noted-none, noted-all, noted-more}
+use Rattle.arena.proofs.Saying.{yes, no}
+use Rattle.walk.specs.Standing.{At, Placed}
+use Rattle.walk.proofs.Looks.{small, few, down-to, stage-in, to-read, far-read}
+use Rattle.walk.proofs.Seeking.{at-head, ends-here, goes-on, Noted, noted-none, noted-all, noted-more}
 use Rattle.walk.proofs.index_mut.seek.Statement.{statement}
 use Rattle.walk.proofs.index_mut.seek.Tie as tie
 
 abbrev Inv-loop : tie.InvT-loop
-Inv-loop w m list slots₀ ranks₀ limit v₀ level₀ slots ranks v level = At w m (list .0) (limit .0) level (v .slot .0) (v .rank .0) × Noted w m (list .0) (limit .0) level slots ranks
+Inv-loop w m list slots₀ ranks₀ limit v₀ base₀ level₀ slots ranks v base level =
+    At w m (list .0) (limit .0) level (v .slot .0) (v .rank .0) × Placed m (v .slot .0) base × Noted w m (list .0) (limit .0) level slots ranks
 
 abbrev μ-loop : tie.MeasureT-loop
-μ-loop w m list slots₀ ranks₀ limit v₀ level₀ slots ranks v level = level
+μ-loop w m list slots₀ ranks₀ limit v₀ base₀ level₀ slots ranks v base level = level + (limit .0 - v .rank .0)
 
 before-requires : tie.Need-before-requires Inv-loop μ-loop
 before-requires c κs = tt
 
+place-requires : tie.Need-place-requires Inv-loop μ-loop
+place-requires c κs = omega (arith, c .before .before .pre .0 .levels, c .before .before .pre .0 .passes .sizes .levels-most)
+
 loop-holds : tie.Need-loop-holds Inv-loop μ-loop
-loop-holds c = let p = c .before .before .pre in (at-head (p .0) (rw (c .before2 .ensures) (p .1)), noted-none (refl, refl))
+loop-holds c = let p = c .before .before .before .pre in (at-head (p .0) (rw (c .before .before2 .ensures) (p .1)), record { is = c .place .ensures }, noted-none (refl, refl))
+
+add-word : tie.Need-add-word Inv-loop μ-loop
+add-word c = omega (arith, stage-in (c .before .loop .inv .0) (c .before .loop .inv .1) (c .loop-test .taken) (c .before .loop .base + 3 + 2 * c .before .loop .level) (omega arith))
+
+mul-word : tie.Need-mul-word Inv-loop μ-loop
+mul-word c = omega (arith, stage-in (c .before .loop .inv .0) (c .before .loop .inv .1) (c .loop-test .taken) (c .before .loop .base + 3 + 2 * c .before .loop .level) (omega arith))
+
+add-word-2 : tie.Need-add-word-2 Inv-loop μ-loop
+add-word-2 c = omega (arith, stage-in (c .before .loop .inv .0) (c .before .loop .inv .1) (c .loop-test .taken) (c .before .loop .base + 3 + 2 * c .before .loop .level) (omega arith))
+
+word-requires : tie.Need-word-requires Inv-loop μ-loop
+word-requires c κs = stage-in (c .before .loop .inv .0) (c .before .loop .inv .1) (c .loop-test .taken) _ (omega arith)
+
+sub-within : tie.Need-sub-within Inv-loop μ-loop
+sub-within c = c .before .before .before .before .loop .inv .0 .before
+
+within-requires : tie.Need-within-requires Inv-loop μ-loop
+within-requires c κs = tt
 
 sub-l : tie.Need-sub-l Inv-loop μ-loop
-sub-l c = omega arith
-
-seek-level-requires : tie.Need-seek-level-requires Inv-loop μ-loop
-seek-level-requires c κs = down-to (c .before .loop .inv .0) (suc (c .before .loop .level - 1)) (omega (arith, c .loop-test .taken))
+sub-l c = omega (arith, c .before .before .before .before .before .loop-test .taken)
 
 mul-slots : tie.Need-mul-slots Inv-loop μ-loop
-mul-slots c = let g = c .before .before .loop .inv .0 in omega (arith, small g, g .owner .level, g .levels, c .before .before .loop .inv .1 .long, c .before .loop-test .taken)
+mul-slots c = omega (arith, small (c .before .before .before .before .before .before .loop .inv .0), c .before .before .before .before .before .before .loop .inv .0 .owner .level, c .before .before .before .before .before .before .loop .inv .0 .levels, c .before .before .before .before .before .before .loop .inv .2 .long, c .before .before .before .before .before .loop-test .taken)
 
 array-write-slots : tie.Need-array-write-slots Inv-loop μ-loop
-array-write-slots c = let g = c .before .before .loop .inv .0 in omega (arith, small g, g .owner .level, g .levels, c .before .before .loop .inv .1 .long, c .before .loop-test .taken)
+array-write-slots c = omega (arith, small (c .before .before .before .before .before .before .loop .inv .0), c .before .before .before .before .before .before .loop .inv .0 .owner .level, c .before .before .before .before .before .before .loop .inv .0 .levels, c .before .before .before .before .before .before .loop .inv .2 .long, c .before .before .before .before .before .loop-test .taken)
 
 mul-ranks : tie.Need-mul-ranks Inv-loop μ-loop
-mul-ranks c = let g = c .before .before .loop .inv .0 in omega (arith, small g, g .owner .level, g .levels, c .before .before .loop .inv .1 .long, c .before .loop-test .taken)
+mul-ranks c = omega (arith, small (c .before .before .before .before .before .before .loop .inv .0), c .before .before .before .before .before .before .loop .inv .0 .owner .level, c .before .before .before .before .before .before .loop .inv .0 .levels, c .before .before .before .before .before .before .loop .inv .2 .long, c .before .before .before .before .before .loop-test .taken)
 
 array-write-ranks : tie.Need-array-write-ranks Inv-loop μ-loop
-array-write-ranks c = let g = c .before .before .loop .inv .0 in omega (arith, small g, g .owner .level, g .levels, c .before .before .loop .inv .1 .long, c .before .loop-test .taken)
+array-write-ranks c = omega (arith, small (c .before .before .before .before .before .before .loop .inv .0), c .before .before .before .before .before .before .loop .inv .0 .owner .level, c .before .before .before .before .before .before .loop .inv .0 .levels, c .before .before .before .before .before .before .loop .inv .2 .long, c .before .before .before .before .before .loop-test .taken)
 
 loop-less : tie.Need-loop-less Inv-loop μ-loop
-loop-less c = omega (arith, c .before .loop-test .taken)
+loop-less c = omega (arith, c .before .before .before .before .before .loop-test .taken)
 
 loop-again : tie.Need-loop-again Inv-loop μ-loop
-loop-again c = let n = c .before .before .loop .inv .1 in
-    let g = c .before .before .loop .inv .0 in (
-      down-to (c .seek-level .ensures .at) (c .before .before .loop .level - 1) (omega arith),
-      noted-more (c .before .before .loop .level - 1) (omega (arith, c .before .loop-test .taken)) (omega (arith, small g, g .owner .level, g .levels, c .before .loop-test .taken)) (c .seek-level .ensures) n,
-    )
+loop-again c =
+    let g = c .before .before .before .before .before .before .loop .inv in
+    let f = ends-here (c .before .before .before .before .before .before .loop .inv .0) (far-read (c .before .before .before .before .before .before .loop .inv .0) (c .before .before .before .before .before .before .loop .inv .1) (c .before .before .before .before .before .loop-test .taken) (omega arith) (c .before .before .before .before .word .ensures)) (no (c .before .within .ensures) (c .if1 .left)) in
+    (down-to (g .0) (c .before .before .before .before .before .before .loop .level - 1) (omega arith), g .1, noted-more (c .before .before .before .before .before .loop-test .taken) (omega (arith, small (g .0), g .0 .owner .level, g .0 .levels)) f (g .2))
+
+add-word-3 : tie.Need-add-word-3 Inv-loop μ-loop
+add-word-3 c = omega (arith, stage-in (c .before .before .before .before .before .before .loop .inv .0) (c .before .before .before .before .before .before .loop .inv .1) (c .before .before .before .before .before .loop-test .taken) (c .before .before .before .before .before .before .loop .base + 3 + 2 * c .before .before .before .before .before .before .loop .level) (omega arith))
+
+mul-word-2 : tie.Need-mul-word-2 Inv-loop μ-loop
+mul-word-2 c = omega (arith, stage-in (c .before .before .before .before .before .before .loop .inv .0) (c .before .before .before .before .before .before .loop .inv .1) (c .before .before .before .before .before .loop-test .taken) (c .before .before .before .before .before .before .loop .base + 3 + 2 * c .before .before .before .before .before .before .loop .level) (omega arith))
+
+add-word-4 : tie.Need-add-word-4 Inv-loop μ-loop
+add-word-4 c = omega (arith, stage-in (c .before .before .before .before .before .before .loop .inv .0) (c .before .before .before .before .before .before .loop .inv .1) (c .before .before .before .before .before .loop-test .taken) (c .before .before .before .before .before .before .loop .base + 3 + 2 * c .before .before .before .before .before .before .loop .level) (omega arith))
+
+word-requires-2 : tie.Need-word-requires-2 Inv-loop μ-loop
+word-requires-2 c κs = stage-in (c .before .before .before .before .before .before .loop .inv .0) (c .before .before .before .before .before .before .loop .inv .1) (c .before .before .before .before .before .loop-test .taken) _ (omega arith)
+
+plus-requires : tie.Need-plus-requires Inv-loop μ-loop
+plus-requires c κs = let y = yes (c .before .before .within .ensures) (c .before .if1 .taken) in let g = c .before .before .before .before .before .before .before .loop .inv .0 in omega (arith, y, g .before, g .within, few g)
+
+place-requires-2 : tie.Need-place-requires-2 Inv-loop μ-loop
+place-requires-2 c κs = small (c .before .before .before .before .before .before .before .before .loop .inv .0)
+
+loop-less-2 : tie.Need-loop-less-2 Inv-loop μ-loop
+loop-less-2 c = let y = yes (c .before .before .before .before .within .ensures) (c .before .before .before .if1 .taken) in omega (arith, y, c .before .plus .ensures, c .before .before .before .before .before .before .before .before .before .loop .inv .0 .before)
+
+loop-again-2 : tie.Need-loop-again-2 Inv-loop μ-loop
+loop-again-2 c = (
+  goes-on (c .before .before .before .before .before .before .before .before .before .loop .inv .0) (far-read (c .before .before .before .before .before .before .before .before .before .loop .inv .0) (c .before .before .before .before .before .before .before .before .before .loop .inv .1) (c .before .before .before .before .before .before .before .before .loop-test .taken) (omega arith) (c .before .before .before .before .before .before .before .word .ensures)) (yes (c .before .before .before .before .within .ensures) (c .before .before .before .if1 .taken)) (to-read (c .before .before .before .before .before .before .before .before .before .loop .inv .0) (c .before .before .before .before .before .before .before .before .before .loop .inv .1) (c .before .before .before .before .before .before .before .before .loop-test .taken) (omega arith) (c .before .before .word2 .ensures)) (c .before .plus .ensures),
+  record { is = c .place2 .ensures },
+  c .before .before .before .before .before .before .before .before .before .loop .inv .2,
+)
 
 seek-next-requires : tie.Need-seek-next-requires Inv-loop μ-loop
 seek-next-requires c κs = down-to (c .before .loop .inv .0) 0 (omega arith)
 
 returns : tie.Need-returns Inv-loop μ-loop
-returns c = let e = c .before .before .before .before2 .ensures in record { before = rw e at (noted-all (c .before .loop-test .left) (c .before .before .loop .inv .1)); end = rw e at (c .seek-next .ensures) }
+returns c = let e = c .before .before .before .before .before2 .ensures in record { before = rw e at (noted-all (c .before .loop-test .left) (c .before .before .loop .inv .2)); end = rw e at (c .seek-next .ensures) }
 
 pub seek-spec : {M : Type 1} → statement M
 seek-spec =
@@ -62,14 +109,28 @@ seek-spec =
     Inv-loop
     μ-loop
     before-requires
+    place-requires
     loop-holds
+    add-word
+    mul-word
+    add-word-2
+    word-requires
+    sub-within
+    within-requires
     sub-l
-    seek-level-requires
     mul-slots
     array-write-slots
     mul-ranks
     array-write-ranks
     loop-less
     loop-again
+    add-word-3
+    mul-word-2
+    add-word-4
+    word-requires-2
+    plus-requires
+    place-requires-2
+    loop-less-2
+    loop-again-2
     seek-next-requires
     returns)
