@@ -1,20 +1,20 @@
 -- Words by slot and column: a store, two stores in one column, and from columns to the words of a state.
-use Prim.Native.Nat.{ℕ, zero, suc, _+_, _-_, _*_, _≤_, _<_}
-use mathlib.Core.Path.{_≡_, refl, sym, ap, ap₂, _∙_, subst}
+use Prim.Native.Nat.{ℕ, suc, _+_, _-_, _*_, _≤_, _<_}
+use mathlib.Core.Path.{_≡_, refl, sym, ap, ap₂, _∙_}
 use mathlib.Core.Logic.{_≢_}
-use mathlib.Core.List.{List, [], _∷_, _++_}
-use lib.ListN.{length, take, drop, getD, set, length-set, take-append-drop, length-drop}
+use mathlib.Core.List.{List, _++_}
+use lib.ListN.{length, take, drop, getD, length-set, take-append-drop, length-drop}
 use lib.Seq.{getD-set-same, getD-set-other, take-set-le, ext-getD, drop-drop, length-take-le}
 use native.Mathlib.Nat.{mul-le-mul-right, zero-add}
 use native.Mathlib.Omega.{arith}
 use Rattle.arena.specs.Mixed.{Mix}
-use Rattle.model.specs.Arena.{State, recordOf, header, encode, records, slots-of}
-use Rattle.model.specs.Cells.{recordAt, Cell, cellAt, putAt}
+use Rattle.model.specs.Arena.{State, recordOf, header, encode, slots-of}
+use Rattle.model.specs.Cells.{recordAt, cellAt, putAt}
 use Rattle.model.specs.Passes.{decode, Passes}
 use Rattle.arena.proofs.Places.{word-rec, here, length-encode}
 use Rattle.model.proofs.Builds.{recs-build}
 use Rattle.model.proofs.Records.{rec-encode, length-record}
-use Rattle.model.proofs.Tests.{Test, hit, miss, test, Same, same, other, same?}
+use Rattle.model.proofs.Tests.{hit, miss, test, same, other, same?}
 
 index-apart : (W s z c d : ℕ) → c < W → d < W → 8 + s * W + c ≡ 8 + z * W + d → (s ≡ z) × (c ≡ d)
 index-apart W s z c d l k e = elim (test (suc s) z) [
@@ -46,66 +46,94 @@ put-front M w s c v = take-set-le 8 w (8 + s * (4 + 2 * M) + c) v (omega arith)
 pub in-words : (M n : ℕ) (w : List ℕ) → length w ≡ 8 + n * (4 + 2 * M) → (s c : ℕ) → s < n → c < 4 + 2 * M → 8 + s * (4 + 2 * M) + c < length w
 in-words M n w e s c l k = omega (arith, mul-le-mul-right (4 + 2 * M) l)
 
--- what two stores in column k, at slots x and y, leave: the column is as f says, where f and g differ there at x and y alone
-module _ (M n : ℕ) (f g : ℕ → List ℕ) (w : List ℕ) (size : length w ≡ 8 + n * (4 + 2 * M)) (k x v y u : ℕ)
+-- column k alone of n records is stored, and is as f says
+pub record Stored (M n : ℕ) (f : ℕ → List ℕ) (k : ℕ) (w u : List ℕ) : Type 0 where
+  pub size : length u ≡ length w
+  pub front : take 8 u ≡ take 8 w
+  pub others : (s d : ℕ) → d < 4 + 2 * M → d ≢ k → cellAt M u s d ≡ cellAt M w s d
+  pub column : (s : ℕ) → s < n → cellAt M u s k ≡ getD (f s) k 0
+
+module _ {M n : ℕ} {f g : ℕ → List ℕ} {k : ℕ} {w u : List ℕ} (x : Stored M n f k w u) where
+  -- the columns so far are those from lo to k; now k too
+  pub mix-up : {lo hi hi′ : ℕ} → lo ≤ k → hi ≡ k → hi′ ≡ suc k → Mix M n f g lo hi w → Mix M n f g lo hi′ u
+  mix-up lk e e′ m = record {
+    size = x .size ∙ m .size;
+    new = λ s c l j p q. elim (test (suc c) k) [
+      | hit t r ↦ x .others s c j (λ z. omega arith) ∙ m .new s c l j p (omega arith)
+      | miss t r ↦ let z : c ≡ k = omega arith in rw z (x .column s l)
+    ];
+    below = λ s c l j p. x .others s c j (λ z. omega arith) ∙ m .below s c l j p;
+    above = λ s c l j p. x .others s c j (λ z. omega arith) ∙ m .above s c l j (omega arith);
+  }
+
+  -- the columns so far are those from k + 1 to hi; now k too
+  pub mix-down : {lo hi : ℕ} → k < hi → lo ≡ suc k → Mix M n f g lo hi w → Mix M n f g k hi u
+  mix-down kh e m = record {
+    size = x .size ∙ m .size;
+    new = λ s c l j p q. elim (test (suc k) c) [
+      | hit t r ↦ x .others s c j (λ z. omega arith) ∙ m .new s c l j (omega arith) q
+      | miss t r ↦ let z : c ≡ k = omega arith in rw z (x .column s l)
+    ];
+    below = λ s c l j p. x .others s c j (λ z. omega arith) ∙ m .below s c l j (omega arith);
+    above = λ s c l j p. x .others s c j (λ z. omega arith) ∙ m .above s c l j p;
+  }
+
+-- a column in which f and g are the same needs no store
+pub skip-down : (M n : ℕ) (f g : ℕ → List ℕ) (w : List ℕ) (k lo hi : ℕ) → k < 4 + 2 * M → lo ≡ suc k → k < hi → ((s : ℕ) → s < n → getD (f s) k 0 ≡ getD (g s) k 0)
+    → Mix M n f g lo hi w → Mix M n f g k hi w
+skip-down M n f g w k lo hi kw e kh alike m =
+    let x : Stored M n f k w w = record { size = refl; front = refl; others = λ s d l ne. refl; column = λ s l. m .below s k l kw (omega arith) ∙ sym (alike s l) } in
+    mix-down x kh e m
+
+-- what one store in column k, at slot x, leaves: the column is as f says, where it was so but at x
+pub one-stored : (M n : ℕ) (f : ℕ → List ℕ) (w : List ℕ) → length w ≡ 8 + n * (4 + 2 * M) → (k x v : ℕ) → k < 4 + 2 * M → x < n
+    → ((s : ℕ) → s < n → s ≢ x → cellAt M w s k ≡ getD (f s) k 0) → getD (f x) k 0 ≡ v → Stored M n f k w (putAt M w x k v)
+one-stored M n f w size k x v kw xn kept at-x = record {
+  size = put-size M w x k v;
+  front = put-front M w x k v;
+  others = λ s d l ne. cell-other M w x k v s d kw l (λ p q. ne (sym q));
+  column = λ s l. elim (same? s x) [
+    | same e q ↦ rw q (cell-same M w x k v (in-words M n w size x k xn kw) ∙ sym at-x)
+    | other e q ↦ cell-other M w x k v s k kw kw (λ r t. q (sym r)) ∙ kept s l q
+  ];
+}
+
+-- the same between f and g, which differ in that column at x alone
+module _ (M n : ℕ) (f g : ℕ → List ℕ) (w : List ℕ) (k x v : ℕ) (kw : k < 4 + 2 * M) (xn : x < n)
+    (alike : (s : ℕ) → s < n → s ≢ x → getD (f s) k 0 ≡ getD (g s) k 0) (at-x : getD (f x) k 0 ≡ v) where
+  pub one-up : (lo hi hi′ : ℕ) → lo ≤ k → hi ≡ k → hi′ ≡ suc k → Mix M n f g lo hi w → Mix M n f g lo hi′ (putAt M w x k v)
+  one-up lo hi hi′ lk e e′ m = mix-up (one-stored M n f w (m .size) k x v kw xn (λ s l p. m .above s k l kw (omega arith) ∙ sym (alike s l p)) at-x) lk e e′ m
+
+  pub one-down : (lo hi : ℕ) → k < hi → lo ≡ suc k → Mix M n f g lo hi w → Mix M n f g k hi (putAt M w x k v)
+  one-down lo hi kh e m = mix-down (one-stored M n f w (m .size) k x v kw xn (λ s l p. m .below s k l kw (omega arith) ∙ sym (alike s l p)) at-x) kh e m
+
+-- what two stores in column k, at slots x and y, leave: the column is as f says, where it was so but at x and y
+module _ (M n : ℕ) (f : ℕ → List ℕ) (w : List ℕ) (size : length w ≡ 8 + n * (4 + 2 * M)) (k x v y u : ℕ)
     (kw : k < 4 + 2 * M) (xn : x < n) (yn : y < n) where
-  abbrev pub two : List ℕ
+  abbrev two : List ℕ
   two = putAt M (putAt M w x k v) y k u
 
-  pub two-size : length two ≡ 8 + n * (4 + 2 * M)
-  two-size = put-size M (putAt M w x k v) y k u ∙ put-size M w x k v ∙ size
-
-  pub two-column : (s d : ℕ) → d < 4 + 2 * M → d ≢ k → cellAt M two s d ≡ cellAt M w s d
+  two-column : (s d : ℕ) → d < 4 + 2 * M → d ≢ k → cellAt M two s d ≡ cellAt M w s d
   two-column s d l ne = cell-other M (putAt M w x k v) y k u s d kw l (λ p q. ne (sym q)) ∙ cell-other M w x k v s d kw l (λ p q. ne (sym q))
 
-  module _ (ne : x ≢ y) (old : (s : ℕ) → s < n → cellAt M w s k ≡ getD (g s) k 0)
-      (alike : (s : ℕ) → s < n → s ≢ x → s ≢ y → getD (f s) k 0 ≡ getD (g s) k 0)
+  module _ (ne : x ≢ y) (kept : (s : ℕ) → s < n → s ≢ x → s ≢ y → cellAt M w s k ≡ getD (f s) k 0)
       (at-x : getD (f x) k 0 ≡ v) (at-y : getD (f y) k 0 ≡ u) where
-    pub column : (s : ℕ) → s < n → cellAt M two s k ≡ getD (f s) k 0
+    column : (s : ℕ) → s < n → cellAt M two s k ≡ getD (f s) k 0
     column s l = elim (same? s y) [
       | same e p ↦ rw p (cell-same M (putAt M w x k v) y k u (rw (put-size M w x k v) (in-words M n w size y k yn kw)) ∙ sym at-y)
       | other e p ↦ cell-other M (putAt M w x k v) y k u s k kw kw (λ q r. p (sym q)) ∙ elim (same? s x) [
         | same i q ↦ rw q (cell-same M w x k v (in-words M n w size x k xn kw) ∙ sym at-x)
-        | other i q ↦ cell-other M w x k v s k kw kw (λ r t. q (sym r)) ∙ old s l ∙ sym (alike s l q p)
+        | other i q ↦ cell-other M w x k v s k kw kw (λ r t. q (sym r)) ∙ kept s l q p
       ]
     ]
 
-    -- the columns so far are those from lo to k; now k too
-    pub step-up : (lo hi hi′ : ℕ) → lo ≤ k → hi ≡ k → hi′ ≡ suc k → Mix M n f g lo hi w → Mix M n f g lo hi′ two
-    step-up lo hi hi′ lk e e′ m = record {
-      size = two-size;
-      new = λ s c l j p q. elim (test (suc c) k) [
-        | hit t r ↦ two-column s c j (λ z. omega arith) ∙ m .new s c l j p (omega arith)
-        | miss t r ↦ let z : c ≡ k = omega arith in rw z (column s l)
-      ];
-      below = λ s c l j p. two-column s c j (λ z. omega arith) ∙ m .below s c l j p;
-      above = λ s c l j p. two-column s c j (λ z. omega arith) ∙ m .above s c l j (omega arith);
+    pub two-stored : Stored M n f k w two
+    two-stored = record {
+      size = put-size M (putAt M w x k v) y k u ∙ put-size M w x k v;
+      front = put-front M (putAt M w x k v) y k u ∙ put-front M w x k v;
+      others = two-column;
+      column = column;
     }
-
-    -- the columns so far are those from k + 1 to hi; now k too
-    pub step-down : (lo hi : ℕ) → k < hi → lo ≡ suc k → Mix M n f g lo hi w → Mix M n f g k hi two
-    step-down lo hi kh e m = record {
-      size = two-size;
-      new = λ s c l j p q. elim (test (suc k) c) [
-        | hit t r ↦ two-column s c j (λ z. omega arith) ∙ m .new s c l j (omega arith) q
-        | miss t r ↦ let z : c ≡ k = omega arith in rw z (column s l)
-      ];
-      below = λ s c l j p. two-column s c j (λ z. omega arith) ∙ m .below s c l j (omega arith);
-      above = λ s c l j p. two-column s c j (λ z. omega arith) ∙ m .above s c l j p;
-    }
-
--- a column in which f and g are the same
-pub skip-down : (M n : ℕ) (f g : ℕ → List ℕ) (w : List ℕ) (k lo hi : ℕ) → k < 4 + 2 * M → lo ≡ suc k → k < hi → ((s : ℕ) → s < n → getD (f s) k 0 ≡ getD (g s) k 0)
-    → Mix M n f g lo hi w → Mix M n f g k hi w
-skip-down M n f g w k lo hi kw e kh alike m = record {
-  size = m .size;
-  new = λ s c l j p q. elim (test (suc k) c) [
-    | hit t r ↦ m .new s c l j (omega arith) q
-    | miss t r ↦ let z : c ≡ k = omega arith in rw z (m .below s k l kw (omega arith) ∙ sym (alike s l))
-  ];
-  below = λ s c l j p. m .below s c l j (omega arith);
-  above = λ s c l j p. m .above s c l j p;
-}
 
 -- ---- from a state, to a state ----
 pub cell-is : (w : List ℕ) → Passes w → (s c : ℕ) → s < slots-of (decode w) → c < 4 + 2 * decode w .levels → cellAt (decode w .levels) w s c ≡ getD (recordOf (decode w) s) c 0

@@ -1,22 +1,21 @@
 -- One level relinked: two words in each of its two columns.
 use Prim.Native.Nat.{ℕ, zero, suc, _+_, _-_, _*_, _≤_, _<_}
-use mathlib.Core.Path.{_≡_, refl, sym, ap, _∙_, subst}
+use mathlib.Core.Path.{_≡_, refl, sym, _∙_, subst}
 use mathlib.Core.Logic.{_≢_}
-use mathlib.Core.List.{List, [], _∷_, _++_}
-use lib.ListN.{length, take, drop, getD, set, length-set}
+use mathlib.Core.List.{List}
+use lib.ListN.{length, take, getD, set, length-set}
 use lib.Seq.{getD-set-other}
 use native.Mathlib.Omega.{arith}
 use Rattle.arena.specs.Mixed.{Mix}
-use Rattle.model.specs.Arena.{State, listOf, recordOf, header, encode, slots-of}
+use Rattle.model.specs.Arena.{State, recordOf, header, encode, slots-of}
 use Rattle.model.specs.Cells.{Cell, cellAt, putAt}
 use Rattle.model.specs.Links.{target, distance}
-use Rattle.model.specs.Nodes.{Node, N, slotAt}
-use Rattle.model.specs.Passes.{decode, nodes, Sound, Passes, Sizes}
-use Rattle.model.specs.Walks.{last}
-use Rattle.arena.proofs.Cells.{in-words, put-size, put-front, step-up, step-down, mix-start, mix-end}
-use Rattle.model.proofs.Hang.{Hung, Stage}
+use Rattle.model.specs.Nodes.{Node}
+use Rattle.model.specs.Passes.{decode, Passes}
+use Rattle.arena.proofs.Cells.{in-words, Stored, mix-up, mix-down, two-stored, mix-start, mix-end}
+use Rattle.model.proofs.Hang.{Hangs, Hung, Stage}
 use Rattle.model.proofs.Links.{past}
-use Rattle.model.proofs.Owners.{to, far, says-to, says-far}
+use Rattle.model.proofs.Owners.{says-to, says-far}
 
 -- the links of the levels below l are as in T, all else as in S
 pub record Relinked (S T : State) (fr : List ℕ) (m l : ℕ) (w : List ℕ) : Type 0 where
@@ -54,44 +53,40 @@ module _ {S T : State} {a o : ℕ} {A X Y : List Node} (H : Hung S T a o A X Y) 
   module _ (ne : s ≢ o) (tp dp t d : ℕ) (e₁ : tp ≡ target (suc l) Y) (e₂ : dp ≡ past (length A - r) (distance (suc l) Y))
       (e₃ : getD (recordOf T o) (4 + 2 * l) 0 ≡ t) (e₄ : getD (recordOf T o) (5 + 2 * l) 0 ≡ d)
       (u : List ℕ) (eu : u ≡ putAt m (putAt m w s (4 + 2 * l) tp) o (4 + 2 * l) t) where
-    mix₁ : Mix m (slots-of S) (recordOf T) (recordOf S) 4 (5 + 2 * l) u
-    mix₁ = rw eu (
-        step-up m (slots-of S) (recordOf T) (recordOf S) w (g .mixed .size) (4 + 2 * l) s tp o t (omega arith) (st .known) on ne
-        (λ z x. g .mixed .above z (4 + 2 * l) x (omega arith) (omega arith))
-        (st .same-to (4 + 2 * l) (says-to (S .levels) l lm)) (st .new-to (4 + 2 * l) (says-to (S .levels) l lm) ∙ sym e₁) e₃
-        4 (4 + 2 * l) (5 + 2 * l) (omega arith) refl (omega arith) (g .mixed)
+    stored₁ : Stored m (slots-of S) (recordOf T) (4 + 2 * l) w u
+    stored₁ = rw eu (
+        two-stored m (slots-of S) (recordOf T) w (g .mixed .size) (4 + 2 * l) s tp o t (omega arith) (st .known) on ne
+        (λ z x p q. g .mixed .above z (4 + 2 * l) x (omega arith) (omega arith) ∙ sym (st .same-to (4 + 2 * l) (says-to (S .levels) l lm) z x p q))
+        (st .new-to (4 + 2 * l) (says-to (S .levels) l lm) ∙ sym e₁) e₃
         )
+
+    mix₁ : Mix m (slots-of S) (recordOf T) (recordOf S) 4 (5 + 2 * l) u
+    mix₁ = mix-up stored₁ (omega arith) refl (omega arith) (g .mixed)
 
     pub cells-then : Cell u m s (5 + 2 * l) × Cell u m o (5 + 2 * l)
     cells-then = (there m (slots-of S) sm u mix₁ s (5 + 2 * l) (st .known) (omega arith), there m (slots-of S) sm u mix₁ o (5 + 2 * l) on (omega arith))
 
     pub turned : (x : List ℕ) → x ≡ putAt m (putAt m u s (5 + 2 * l) dp) o (5 + 2 * l) d → Relinked S T fr m (l + 1) x
-    turned x ex = record {
-      front = rw (ex, put-front, put-front, eu, put-front, put-front) (g .front);
-      mixed = rw ex (
-          step-up m (slots-of S) (recordOf T) (recordOf S) u (mix₁ .size) (5 + 2 * l) s dp o d (omega arith) (st .known) on ne
-          (λ z x. mix₁ .above z (5 + 2 * l) x (omega arith) (omega arith))
-          (st .same-far (5 + 2 * l) (says-far (S .levels) l lm)) (st .new-far (5 + 2 * l) (says-far (S .levels) l lm) ∙ sym e₂) e₄
-          4 (5 + 2 * l) (4 + 2 * (l + 1)) (omega arith) refl (omega arith) mix₁
-          );
-    }
+    turned x ex =
+        let stored₂ : Stored m (slots-of S) (recordOf T) (5 + 2 * l) u x = rw ex (
+        two-stored m (slots-of S) (recordOf T) u (mix₁ .size) (5 + 2 * l) s dp o d (omega arith) (st .known) on ne
+        (λ z x p q. mix₁ .above z (5 + 2 * l) x (omega arith) (omega arith) ∙ sym (st .same-far (5 + 2 * l) (says-far (S .levels) l lm) z x p q))
+        (st .new-far (5 + 2 * l) (says-far (S .levels) l lm) ∙ sym e₂) e₄
+        ) in
+        record { front = stored₂ .front ∙ stored₁ .front ∙ g .front; mixed = mix-up stored₂ (omega arith) refl (omega arith) mix₁ }
 
 -- ---- the whole ----
-pub relink-end : {S T : State} {a o : ℕ} {A X Y : List Node} → Hung S T a o A X Y → (m : ℕ) → m ≡ S .levels → (w : List ℕ)
+pub all-done : (S T : State) → S .levels ≡ T .levels → slots-of S ≡ slots-of T → (m : ℕ) → m ≡ S .levels → (w : List ℕ)
     → Mix m (slots-of S) (recordOf T) (recordOf S) 0 (4 + 2 * m) w → take 8 w ≡ header T → w ≡ encode T
-relink-end {S} {T} H m e w x f =
-    let n : slots-of S ≡ slots-of T = omega (arith, H .lists, H .room) in
+all-done S T levels slots m e w x f =
     mix-end T (recordOf S) w
-    (subst (λ (k : ℕ). Mix (T .levels) k (recordOf T) (recordOf S) 0 (4 + 2 * T .levels) w) n
-    (subst (λ (k : ℕ). Mix k (slots-of S) (recordOf T) (recordOf S) 0 (4 + 2 * k) w) (e ∙ H .levels) x))
+    (subst (λ (k : ℕ). Mix (T .levels) k (recordOf T) (recordOf S) 0 (4 + 2 * T .levels) w) slots
+    (subst (λ (k : ℕ). Mix k (slots-of S) (recordOf T) (recordOf S) 0 (4 + 2 * k) w) (e ∙ levels) x))
     f
 
--- columns 3 to 0, after the links
-pub down : {m n : ℕ} {f g : ℕ → List ℕ} {w : List ℕ} (k lo : ℕ) → Mix m n f g lo (4 + 2 * m) w → lo ≡ suc k → k < 4 → (x v y u : ℕ) → x < n → y < n → x ≢ y
-    → ((s : ℕ) → s < n → s ≢ x → s ≢ y → getD (f s) k 0 ≡ getD (g s) k 0) → getD (f x) k 0 ≡ v → getD (f y) k 0 ≡ u
-    → (w′ : List ℕ) → w′ ≡ putAt m (putAt m w x k v) y k u → Mix m n f g k (4 + 2 * m) w′
-down {m} {n} {f} {g} {w} k lo M e l x v y u xn yn ne alike ax ay w′ q =
-    rw q (step-down m n f g w (M .size) k x v y u (omega arith) xn yn ne (λ s z. M .below s k z (omega arith) (omega arith)) alike ax ay lo (4 + 2 * m) (omega arith) e M)
+pub relink-end : {S T : State} {a : ℕ} {Out : ℕ → Type 0} {A X Y : List Node} → Hangs S T a Out A X Y → (m : ℕ) → m ≡ S .levels → (w : List ℕ)
+    → Mix m (slots-of S) (recordOf T) (recordOf S) 0 (4 + 2 * m) w → take 8 w ≡ header T → w ≡ encode T
+relink-end {S} {T} H = all-done S T (H .levels) (omega (arith, H .lists, H .room))
 
 -- a store in the header changes no record
 pub mix-header : {m n lo hi : ℕ} {f g : ℕ → List ℕ} {w : List ℕ} (j v : ℕ) → j < 8 → Mix m n f g lo hi w → Mix m n f g lo hi (set w j v)
@@ -111,10 +106,13 @@ pub record Half (S T : State) (fr : List ℕ) (m lo : ℕ) (w : List ℕ) : Type
   pub front : take 8 w ≡ fr
   pub mixed : Mix m (slots-of S) (recordOf T) (recordOf S) lo (4 + 2 * m) w
 
+pub stored-col : {S T : State} {fr : List ℕ} {m k : ℕ} {w u : List ℕ} → Stored m (slots-of S) (recordOf T) k w u → k < 4 → Half S T fr m (suc k) w → Half S T fr m k u
+stored-col x l g = record { front = x .front ∙ g .front; mixed = mix-down x (omega arith) refl (g .mixed) }
+
 pub col : {S T : State} {fr : List ℕ} {m : ℕ} {w : List ℕ} (k : ℕ) → k < 4 → Half S T fr m (suc k) w → (x v y u : ℕ) → x < slots-of S → y < slots-of S → x ≢ y
     → ((s : ℕ) → s < slots-of S → s ≢ x → s ≢ y → getD (recordOf T s) k 0 ≡ getD (recordOf S s) k 0) → getD (recordOf T x) k 0 ≡ v → getD (recordOf T y) k 0 ≡ u
     → {w′ : List ℕ} → w′ ≡ putAt m (putAt m w x k v) y k u → Half S T fr m k w′
-col k l g x v y u xn yn ne alike ax ay {w′} q = record {
-  front = rw (q, put-front, put-front) (g .front);
-  mixed = down k (suc k) (g .mixed) refl l x v y u xn yn ne alike ax ay w′ q;
-}
+col {S} {T} {fr} {m} {w} k l g x v y u xn yn ne alike ax ay q =
+    let stored = two-stored m (slots-of S) (recordOf T) w (g .mixed .size) k x v y u (omega arith) xn yn ne
+    (λ s z p q. g .mixed .below s k z (omega arith) (omega arith) ∙ sym (alike s z p q)) ax ay in
+    stored-col (rw q stored) l g

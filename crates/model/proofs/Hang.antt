@@ -93,8 +93,8 @@ module _ (S : State) (v : Sound S) (a : ℕ) (la : a < length (S .lists)) (A X :
     pub goes-last : Goes (last h A)
     goes-last = goes (last h A) refl
 
--- ---- two states: behind A the list a changes from X to Y; else one slot o alone changes ----
-pub record Hung (S T : State) (a o : ℕ) (A X Y : List Node) : Type 0 where
+-- ---- two states: behind A the list a changes from X to Y; else slots of Out alone change ----
+pub record Hangs (S T : State) (a : ℕ) (Out : ℕ → Type 0) (A X Y : List Node) : Type 0 where
   pub sound-S : Sound S
   pub sound-T : Sound T
   pub levels : S .levels ≡ T .levels
@@ -103,11 +103,15 @@ pub record Hung (S T : State) (a o : ℕ) (A X Y : List Node) : Type 0 where
   pub list : a < length (S .lists)
   pub is-S : listOf S a ≡ A ++ X
   pub is-T : listOf T a ≡ A ++ Y
-  pub rest : (s : ℕ) → s < slots-of S → s ≢ o → InA a A s ⊎ (recordOf T s ≡ recordOf S s)
+  pub rest : (s : ℕ) → s < slots-of S → ¬ Out s → InA a A s ⊎ (recordOf T s ≡ recordOf S s)
+
+-- one slot o
+abbrev pub Hung : State → State → ℕ → ℕ → List Node → List Node → List Node → Type 0
+Hung S T a o A X Y = Hangs S T a (λ z. z ≡ o) A X Y
 
 -- the other way round: an append undoes a split, a removal an insertion
-pub flip : {S T : State} {a o : ℕ} {A X Y : List Node} → Hung S T a o A X Y → Hung T S a o A Y X
-flip {S} {T} {a} {o} {A} {X} {Y} H = record {
+pub flip : {S T : State} {a : ℕ} {Out : ℕ → Type 0} {A X Y : List Node} → Hangs S T a Out A X Y → Hangs T S a Out A Y X
+flip H = record {
   sound-S = H .sound-T;
   sound-T = H .sound-S;
   levels = sym (H .levels);
@@ -119,16 +123,16 @@ flip {S} {T} {a} {o} {A} {X} {Y} H = record {
   rest = λ s l ne. elim (H .rest s (omega (arith, H .lists, H .room)) ne) [ inl i ↦ inl i | inr e ↦ inr (sym e) ];
 }
 
-module _ {S T : State} {a o : ℕ} {A X Y : List Node} (H : Hung S T a o A X Y) where
+module _ {S T : State} {a : ℕ} {Out : ℕ → Type 0} {A X Y : List Node} (H : Hangs S T a Out A X Y) where
   in-T : a < length (T .lists)
   in-T = omega (arith, H .list, H .lists)
 
-  -- a column that says qh of a head and qn of a node: it differs at P and at o alone
+  -- a column that says qh of a head and qn of a node: it differs at P and at Out alone
   module _ (c P : ℕ) (qh : List Node → ℕ) (qn : Node → List Node → ℕ)
       (hd : (xs : List Node) → getD (headWords (S .levels) xs) c 0 ≡ qh xs) (nd : (y : Node) (ys : List Node) → getD (nodeWords (S .levels) y ys) c 0 ≡ qn y ys)
       (keeps : (Z aa : List Node) (y : Node) (vs : List Node) → A ≡ aa ++ y ∷ vs → y .slot ≢ P → qn y (vs ++ Z) ≡ qn y vs)
       (keeps-head : (Z : List Node) → a ≢ P → qh (A ++ Z) ≡ qh A) where
-    pub agree : (s : ℕ) → s < slots-of S → s ≢ P → s ≢ o → getD (recordOf T s) c 0 ≡ getD (recordOf S s) c 0
+    pub agree : (s : ℕ) → s < slots-of S → s ≢ P → ¬ Out s → getD (recordOf T s) c 0 ≡ getD (recordOf S s) c 0
     agree s l np nz = elim (H .rest s l nz) [
       | inr q ↦ ap (λ (R : List ℕ). getD R c 0) q
       | inl i ↦ elim i [
@@ -148,13 +152,13 @@ module _ {S T : State} {a o : ℕ} {A X Y : List Node} (H : Hung S T a o A X Y) 
     ]
 
   -- of the columns 0, 1 and 3 the heads' change alone; of column 1 nothing
-  pub same-0 : (s : ℕ) → s < slots-of S → s ≢ a → s ≢ o → getD (recordOf T s) 0 0 ≡ getD (recordOf S s) 0 0
+  pub same-0 : (s : ℕ) → s < slots-of S → s ≢ a → ¬ Out s → getD (recordOf T s) 0 0 ≡ getD (recordOf S s) 0 0
   same-0 = agree 0 a length (λ y ys. y .key) (λ xs. refl) (λ y ys. refl) (λ Z aa y vs e nq. refl) (λ Z nq. absurd (nq refl))
 
-  pub same-1 : (s : ℕ) → s < slots-of S → s ≢ o → getD (recordOf T s) 1 0 ≡ getD (recordOf S s) 1 0
+  pub same-1 : (s : ℕ) → s < slots-of S → ¬ Out s → getD (recordOf T s) 1 0 ≡ getD (recordOf S s) 1 0
   same-1 s l = agree 1 (slots-of S) (λ xs. S .levels) (λ y ys. y .height) (λ xs. refl) (λ y ys. refl) (λ Z aa y vs f nq. refl) (λ Z nq. refl) s l (λ f. omega arith)
 
-  pub same-3 : (s : ℕ) → s < slots-of S → s ≢ a → s ≢ o → getD (recordOf T s) 3 0 ≡ getD (recordOf S s) 3 0
+  pub same-3 : (s : ℕ) → s < slots-of S → s ≢ a → ¬ Out s → getD (recordOf T s) 3 0 ≡ getD (recordOf S s) 3 0
   same-3 = agree 3 a lastSlot (λ y ys. 0) (λ xs. refl) (λ y ys. refl) (λ Z aa y vs e nq. refl) (λ Z nq. absurd (nq refl))
 
   pub head-S : recordOf S a ≡ headWords (S .levels) (A ++ X)
@@ -172,8 +176,8 @@ module _ {S T : State} {a o : ℕ} {A X Y : List Node} (H : Hung S T a o A X Y) 
     pub old-far : (c : ℕ) → Says (S .levels) c (far h) → getD (recordOf S s) c 0 ≡ past (length A - r) (distance h X)
     pub new-to : (c : ℕ) → Says (S .levels) c (to h) → getD (recordOf T s) c 0 ≡ target h Y
     pub new-far : (c : ℕ) → Says (S .levels) c (far h) → getD (recordOf T s) c 0 ≡ past (length A - r) (distance h Y)
-    pub same-to : (c : ℕ) → Says (S .levels) c (to h) → (z : ℕ) → z < slots-of S → z ≢ s → z ≢ o → getD (recordOf T z) c 0 ≡ getD (recordOf S z) c 0
-    pub same-far : (c : ℕ) → Says (S .levels) c (far h) → (z : ℕ) → z < slots-of S → z ≢ s → z ≢ o → getD (recordOf T z) c 0 ≡ getD (recordOf S z) c 0
+    pub same-to : (c : ℕ) → Says (S .levels) c (to h) → (z : ℕ) → z < slots-of S → z ≢ s → ¬ Out z → getD (recordOf T z) c 0 ≡ getD (recordOf S z) c 0
+    pub same-far : (c : ℕ) → Says (S .levels) c (far h) → (z : ℕ) → z < slots-of S → z ≢ s → ¬ Out z → getD (recordOf T z) c 0 ≡ getD (recordOf S z) c 0
 
   pub stage-is : (h : ℕ) → h ≤ S .levels → (s r : ℕ) → r ≡ last h A → s ≡ slotAt a A r → Stage h s r
   stage-is h hm s r er es =

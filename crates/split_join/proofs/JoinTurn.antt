@@ -1,5 +1,5 @@
 -- A join is a split turned round: its loop, below whose level l the links are as after the join. Rests on model's Splitting and arena's Relink.
-use Prim.Native.Nat.{ℕ, zero, suc, _+_, _-_, _*_, _≤_, _<_}
+use Prim.Native.Nat.{ℕ, suc, _+_, _-_, _*_, _≤_, _<_}
 use mathlib.Core.Path.{_≡_, refl, sym, ap, _∙_}
 use mathlib.Core.Bool.{cond}
 use mathlib.Core.List.{List, [], _∷_, _++_}
@@ -13,7 +13,7 @@ use Rattle.arena.specs.Owners.{Leads}
 use Rattle.model.specs.Arena.{State, listOf, recordOf, slots-of}
 use Rattle.model.specs.Calls.{doJoin}
 use Rattle.model.specs.Cells.{Cell, cellAt}
-use Rattle.model.specs.Links.{further, target, distance}
+use Rattle.model.specs.Links.{distance}
 use Rattle.model.specs.Nodes.{Node, N, slotAt, Low}
 use Rattle.model.specs.Passes.{decode, nodes}
 use Rattle.model.specs.Walks.{last}
@@ -24,22 +24,12 @@ use Rattle.model.proofs.Hang.{Hung, Stage, stage-is, flip, head-S}
 use Rattle.model.proofs.Keeps.{sound-put2, low-append, times-append, each-get}
 use Rattle.model.proofs.Links.{past}
 use Rattle.model.proofs.Owners.{says-to, says-far}
-use Rattle.model.proofs.Splitting.{SplitLike, hung-split, not-b, b-S, b-T}
-use Rattle.model.proofs.Tests.{hit, miss, test}
-use Rattle.spans.proofs.Distances.{farther-is}
-use Rattle.split_join.proofs.LinkWords.{fourPuts, links-in, turned-both}
+use Rattle.model.proofs.Splitting.{SplitLike, hung-split, not-b, b-S}
+use Rattle.split_join.proofs.LinkWords.{fourPuts, links-in, turned-both, to-is, hung-fits, hung-far}
 
 take-all : (xs : List Node) → take (length xs) xs ≡ xs
 take-all [] = refl
 take-all (x ∷ xs) = ap (λ (t : List Node). x ∷ t) (take-all xs)
-
-distance-le : (h : ℕ) (ys : List Node) → distance h ys ≤ length ys
-distance-le h [] = omega arith
-distance-le h (y ∷ ys) = elim (test h (y .height)) [ hit e p ↦ rw e (omega arith) | miss e p ↦ rw e (one-more (distance h ys) (distance-le h ys)) ]
-  where
-    one-more : (d : ℕ) {n : ℕ} → d ≤ n → further d ≤ suc n
-    one-more zero l = omega arith
-    one-more (suc d) l = omega arith
 
 module _ {w₀ : List ℕ} {m a b : ℕ} (p : Joins w₀ m a b) where
   abbrev S : State
@@ -144,24 +134,12 @@ module _ {w₀ : List ℕ} {m a b n : ℕ} {path : Path} {l : ℕ} {w : List ℕ
   links-now = links-in (H p) (b-in p) (p .onto .levels) (small p) (z .links) k st
 
   module _ (t f : ℕ) (et : t ≡ cellAt m w b (4 + 2 * l)) (ef : f ≡ cellAt m w b (5 + 2 * l)) where
-    t-is : t ≡ target (suc l) (nodes w₀ b)
-    t-is =
-        et ∙ z .links .mixed .above b (4 + 2 * l) (b-in p) (omega arith) (omega arith) ∙ ap (λ (R : List ℕ). getD R (4 + 2 * l) 0) (b-T (like p))
-        ∙ says-to M l lm .head (nodes w₀ b) ∙ (rw (le-leb (suc l) M lm) refl)
-
-    f-is : f ≡ distance (suc l) (nodes w₀ b)
-    f-is =
-        ef ∙ z .links .mixed .above b (5 + 2 * l) (b-in p) (omega arith) (omega arith) ∙ ap (λ (R : List ℕ). getD R (5 + 2 * l) 0) (b-T (like p))
-        ∙ says-far M l lm .head (nodes w₀ b) ∙ (rw (le-leb (suc l) M lm) refl)
-
     pub fits : f + (n - r) < 4294967296
-    fits = omega (arith, f-is, distance-le (suc l) (nodes w₀ b), few p .0, few p .1, z .count)
+    fits = hung-fits (p .from) (z .links) k ef n r (omega (arith, few p .0, z .count)) (few p .1)
 
     module _ (d : ℕ) (ed : d ≡ cond (eqb f 0) 0 (f + (n - r))) where
       d-is : d ≡ past (length (nodes w₀ a) - r) (distance (suc l) (nodes w₀ b))
-      d-is =
-          let q : n - r ≡ length (nodes w₀ a) - r = omega (arith, z .count) in
-          ed ∙ farther-is (n - r) f ∙ ap (past (n - r)) f-is ∙ ap (λ (x : ℕ). past x (distance (suc l) (nodes w₀ b))) q
+      d-is = hung-far (p .from) (z .links) k ef n r ed ∙ ap (λ (x : ℕ). past (x - r) (distance (suc l) (nodes w₀ b))) (z .count)
 
       b-to : getD (recordOf (doJoin (decode w₀) a b) b) (4 + 2 * l) 0 ≡ N
       b-to = ap (λ (R : List ℕ). getD R (4 + 2 * l) 0) (b-S (like p)) ∙ says-to M l lm .head [] ∙ (rw (le-leb (suc l) M lm) refl)
@@ -175,5 +153,5 @@ module _ {w₀ : List ℕ} {m a b n : ℕ} {path : Path} {l : ℕ} {w : List ℕ
         leads = z .leads;
         count = z .count;
         level = omega arith;
-        links = turned-both (H p) (b-in p) (p .onto .levels) (small p) (z .links) k st (not-b (like p) s (st .owner)) t d N 0 t-is d-is b-to b-far x ex;
+        links = turned-both (H p) (b-in p) (p .onto .levels) (small p) (z .links) k st (not-b (like p) s (st .owner)) t d N 0 (to-is (p .from) (z .links) k et) d-is b-to b-far x ex;
       }

@@ -1,5 +1,10 @@
 pub mod LinkWords
+pub mod HalfWords
+pub mod Shifting
 pub mod SplitTurn
 pub mod SplitHeads
 pub mod JoinTurn
 pub mod JoinHeads
+pub mod BeforeLists
+pub mod BeforeTurn
+pub mod BeforeHeads

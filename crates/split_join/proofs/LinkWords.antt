@@ -1,18 +1,28 @@
--- The two words of a link, at two owners: what one turn of a relinking loop stores. Rests on arena's Relink.
-use Prim.Native.Nat.{ℕ, suc, _+_, _-_, _*_, _≤_, _<_}
+-- The two words of a link: what the head's link of a list that is hung behind another says, while its level is as it was, and what one turn of a
+-- relinking loop stores at two owners. Rests on arena's Relink, model's Owners and spans' Distances.
+use Prim.Native.Nat.{ℕ, zero, suc, _+_, _-_, _*_, _≤_, _<_}
 use mathlib.Core.Path.{_≡_, refl, ap, _∙_}
 use mathlib.Core.Logic.{_≢_}
-use mathlib.Core.List.{List}
+use mathlib.Core.Bool.{cond}
+use mathlib.Core.List.{List, [], _∷_}
+use lib.Dec.{eqb}
 use lib.ListN.{length, getD}
 use native.Mathlib.Omega.{arith}
+use borrow.Author.Tests.{le-leb}
+use Rattle.arena.specs.Owners.{Listed}
+use Rattle.model.specs.Arena.{State, recordOf, slots-of, headWords}
+use Rattle.model.specs.Cells.{putAt, cellAt}
+use Rattle.model.specs.Links.{target, distance, further}
 use Rattle.model.specs.Nodes.{Node}
-use Rattle.model.specs.Links.{target, distance}
-use Rattle.model.specs.Arena.{State, recordOf, slots-of}
-use Rattle.model.specs.Cells.{putAt}
+use Rattle.model.specs.Passes.{decode, nodes}
 use Rattle.split_join.specs.Cuts.{LinkIn}
 use Rattle.arena.proofs.Relink.{Relinked, cell-at, cell-o, turned}
 use Rattle.model.proofs.Hang.{Hung, Stage}
 use Rattle.model.proofs.Links.{past}
+use Rattle.model.proofs.Owners.{says-to, says-far}
+use Rattle.model.proofs.Records.{head-words}
+use Rattle.model.proofs.Tests.{hit, miss, test}
+use Rattle.spans.proofs.Distances.{farther-is}
 
 -- the words with level l of slots x and y stored
 abbrev pub fourPuts : ℕ → List ℕ → ℕ → ℕ → ℕ → ℕ → ℕ → ℕ → ℕ → List ℕ
@@ -34,3 +44,38 @@ module _ {S T : State} {a o : ℕ} {A X Y : List Node} (H : Hung S T a o A X Y) 
       → getD (recordOf T o) (4 + 2 * l) 0 ≡ t → getD (recordOf T o) (5 + 2 * l) 0 ≡ d
       → (x : List ℕ) → x ≡ fourPuts m w l s tp dp o t d → Relinked S T fr m (l + 1) x
   turned-both ne tp dp t d e₁ e₂ e₃ e₄ x ex = turned H on em sm g k st ne tp dp t d e₁ e₂ e₃ e₄ (putAt m (putAt m w s (4 + 2 * l) tp) o (4 + 2 * l) t) refl x ex
+
+-- ---- list b, of which level l is as it was, is hung behind n nodes of another list ----
+distance-le : (h : ℕ) (ys : List Node) → distance h ys ≤ length ys
+distance-le h [] = omega arith
+distance-le h (y ∷ ys) = elim (test h (y .height)) [ hit e p ↦ rw e (omega arith) | miss e p ↦ rw e (one-more (distance h ys) (distance-le h ys)) ]
+  where
+    one-more : (d : ℕ) {n : ℕ} → d ≤ n → further d ≤ suc n
+    one-more zero l = omega arith
+    one-more (suc d) l = omega arith
+
+module _ {w₀ : List ℕ} {m b : ℕ} (p : Listed w₀ m b) {T : State} {fr : List ℕ} {l : ℕ} {w : List ℕ} (g : Relinked (decode w₀) T fr m l w) (k : l < m) where
+  abbrev M : ℕ
+  M = decode w₀ .levels
+
+  abbrev B : List Node
+  B = nodes w₀ b
+
+  lm : l < M
+  lm = omega (arith, p .levels)
+
+  old : (c : ℕ) → 4 + 2 * l ≤ c → c < 4 + 2 * m → cellAt m w b c ≡ getD (headWords M B) c 0
+  old c x y = g .mixed .above b c (omega (arith, p .list)) y x ∙ ap (λ (R : List ℕ). getD R c 0) (head-words (decode w₀) b (p .list))
+
+  pub to-is : {t : ℕ} → t ≡ cellAt m w b (4 + 2 * l) → t ≡ target (suc l) B
+  to-is e = e ∙ old (4 + 2 * l) (omega arith) (omega arith) ∙ says-to M l lm .head B ∙ (rw (le-leb (suc l) M lm) refl)
+
+  far-is : {f : ℕ} → f ≡ cellAt m w b (5 + 2 * l) → f ≡ distance (suc l) B
+  far-is e = e ∙ old (5 + 2 * l) (omega arith) (omega arith) ∙ says-far M l lm .head B ∙ (rw (le-leb (suc l) M lm) refl)
+
+  module _ {f : ℕ} (ef : f ≡ cellAt m w b (5 + 2 * l)) (n r : ℕ) where
+    pub hung-fits : n ≤ 65535 → length B ≤ 65535 → f + (n - r) < 4294967296
+    hung-fits x y = omega (arith, far-is ef, distance-le (suc l) B)
+
+    pub hung-far : {d : ℕ} → d ≡ cond (eqb f 0) 0 (f + (n - r)) → d ≡ past (n - r) (distance (suc l) B)
+    hung-far ed = ed ∙ farther-is (n - r) f ∙ ap (past (n - r)) (far-is ef)

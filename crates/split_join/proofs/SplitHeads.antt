@@ -1,11 +1,10 @@
--- A split after its links: the columns 3, 2, 1 and 0, one after the other, and the whole. Rests on SplitTurn.
+-- A split after its links: the columns 3, 2, 1 and 0, one after the other, and the whole. Rests on SplitTurn and HalfWords.
 use Prim.Native.Nat.{ℕ, _+_, _-_, _*_, _≤_, _<_}
 use mathlib.Core.Path.{_≡_, refl, sym, ap, _∙_}
 use mathlib.Core.Bool.{cond}
 use mathlib.Core.List.{List, append-nil}
 use lib.Dec.{eqb}
 use lib.ListN.{length, take, drop, getD, length-drop, drop-of-length-le}
-use native.Mathlib.Nat.{le-antisymm}
 use native.Mathlib.Omega.{arith}
 use borrow.Author.Tests.{le-leb}
 use Rattle.model.specs.Arena.{State, lastSlot, headWords, recordOf, encode, slots-of}
@@ -16,13 +15,14 @@ use Rattle.model.specs.Passes.{decode, nodes}
 use Rattle.arena.specs.declared.Path.{Path}
 use Rattle.split_join.specs.Cuts.{Splits}
 use Rattle.arena.proofs.Cells.{skip-down}
-use Rattle.arena.proofs.Relink.{Half, there, col, relink-end}
-use Rattle.model.proofs.Hang.{Stage, same-0, same-1, same-3, head-S, head-T}
+use Rattle.arena.proofs.Relink.{Half, col, relink-end}
+use Rattle.model.proofs.Hang.{Stage, same-0, same-1, same-3, head-T}
 use Rattle.model.proofs.Owners.{says-next}
 use Rattle.model.proofs.Splitting.{not-b, b-S, b-T, last-slot-take, last-drop}
 use Rattle.model.proofs.Tests.{same, other, same?}
 use Rattle.model.proofs.Walk.{last-zero}
-use Rattle.split_join.proofs.SplitTurn.{Turning, like, H, small, b-in, length-A, stage-of, split-start}
+use Rattle.split_join.proofs.HalfWords.{half, half-size, half-cell, head-was}
+use Rattle.split_join.proofs.SplitTurn.{Turning, like, H, b-in, length-A, stage-of}
 
 module _ {w₀ : List ℕ} {m a b i : ℕ} (p : Splits w₀ m a b i) where
   abbrev S : State
@@ -39,22 +39,19 @@ module _ {w₀ : List ℕ} {m a b i : ℕ} (p : Splits w₀ m a b i) where
   Done lo w = Half S T (take 8 w₀) m lo w
 
   pub links-done : {path : Path} {l : ℕ} {w : List ℕ} → Turning w₀ m a b i path l w → m ≤ l → Done 4 w
-  links-done g k = let e = le-antisymm (g .level) k in record { front = g .links .front; mixed = rw e at (g .links .mixed) }
+  links-done g k = half (g .links) (g .level) k
 
   pub size-is : {lo : ℕ} {w : List ℕ} → Done lo w → length w ≡ length w₀
-  size-is g = g .mixed .size ∙ sym (split-start p .mixed .size)
+  size-is g = half-size (p .from) g
 
   a-in : a < slots-of S
   a-in = omega (arith, p .from .list)
 
   cells : {lo : ℕ} {w : List ℕ} → Done lo w → (s c : ℕ) → s < slots-of S → c < 4 → Cell w m s c × Cell w m b c
-  cells {lo} {w} g s c l k = (there m (slots-of S) (small p) w (g .mixed) s c l (omega arith), there m (slots-of S) (small p) w (g .mixed) b c (b-in p) (omega arith))
+  cells g s c l k = (half-cell (p .from) g s c l k, half-cell (p .from) g b c (b-in p) k)
 
   pub cells-a : {lo : ℕ} {w : List ℕ} → Done lo w → (c : ℕ) → c < 4 → Cell w m a c × Cell w m b c
   cells-a g c l = cells g a c a-in l
-
-  head-old : {w : List ℕ} → Done 4 w → (c v : ℕ) → c < 4 → v ≡ cellAt m w a c → v ≡ getD (headWords (S .levels) xs) c 0
-  head-old g c v l e = e ∙ g .mixed .below a c a-in (omega arith) l ∙ ap (λ (R : List ℕ). getD R c 0) (head-S (H p) ∙ ap (headWords (S .levels)) (sym (H p .is-S)))
 
   new-a : (c : ℕ) → getD (recordOf T a) c 0 ≡ getD (headWords (S .levels) (take i xs)) c 0
   new-a c = ap (λ (R : List ℕ). getD R c 0) (head-T (H p) ∙ ap (headWords (S .levels)) (append-nil (take i xs)))
@@ -63,7 +60,7 @@ module _ {w₀ : List ℕ} {m a b i : ℕ} (p : Splits w₀ m a b i) where
   new-b c = ap (λ (R : List ℕ). getD R c 0) (b-T (like p))
 
   pub count-is : {w : List ℕ} → Done 4 w → (n : ℕ) → n ≡ cellAt m w a 0 → n ≡ length xs
-  count-is g n e = head-old g 0 n (omega arith) e
+  count-is g n e = head-was (p .from) g 0 (omega arith) (omega arith) e
 
   kept-is : (e k : ℕ) → e ≡ slotAt a xs i → k ≡ cond (eqb i 0) N e → k ≡ lastSlot (take i xs)
   kept-is e k ee ek = elim (same? i 0) [
@@ -81,7 +78,7 @@ module _ {w₀ : List ℕ} {m a b i : ℕ} (p : Splits w₀ m a b i) where
       → ka ≡ cond (eqb i 0) N e → kb ≡ cond (eqb (n - i) 0) N z → {w′ : List ℕ} → w′ ≡ putAt m (putAt m w a 3 ka) b 3 kb → Done 3 w′
   col-3 g e n z ka kb ee en ez ea eb =
       col 3 (omega arith) g a ka b kb a-in (b-in p) (p .apart) (same-3 (H p)) (new-a 3 ∙ sym (kept-is e ka ee ea))
-      (new-b 3 ∙ sym (moved-is n z kb (count-is g n en) (head-old g 3 z (omega arith) ez) eb))
+      (new-b 3 ∙ sym (moved-is n z kb (count-is g n en) (head-was (p .from) g 3 (omega arith) (omega arith) ez) eb))
 
   module _ (e : ℕ) (ee : e ≡ slotAt a xs i) where
     st : Stage (H p) 0 e i

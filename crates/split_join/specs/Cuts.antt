@@ -1,10 +1,12 @@
--- What a split and a join ask of words. Rests on model's specs and on arena's Listed.
+-- What a split and a join ask of words, and what a join before leaves. Rests on model's specs and on arena's Listed.
 use Prim.Native.Nat.{ℕ, _+_, _*_, _≤_, _<_}
 use mathlib.Core.Path.{_≡_}
 use mathlib.Core.Logic.{_≢_}
 use mathlib.Core.List.{List, [], _++_}
 use lib.ListN.{length}
 use Rattle.model.specs.Nodes.{Sorted}
+use Rattle.model.specs.Arena.{State, listOf, putList}
+use Rattle.model.specs.Cells.{cellAt, putAt}
 use Rattle.model.specs.Passes.{nodes}
 use Rattle.model.specs.Arena.{farColumn}
 use Rattle.model.specs.Cells.{place}
@@ -31,3 +33,11 @@ pub record Joins (w : List ℕ) (m a b : ℕ) : Type 0 where
   pub apart : a ≢ b
   pub some : 0 < length (nodes w b)
   pub sorted : Sorted (nodes w a ++ nodes w b)
+
+-- Append's second case, "b precedes a" (no call by itself): the nodes of list b come before those of list a. "b ends empty."
+abbrev pub doBefore : State → ℕ → ℕ → State
+doBefore S a b = putList (putList S a (listOf S b ++ listOf S a) (S .free)) b [] (S .free)
+
+-- Column c with v at slot s, then what slot b has at slot a, then z at slot b.
+abbrev pub shifted : ℕ → List ℕ → ℕ → ℕ → ℕ → ℕ → ℕ → ℕ → List ℕ
+shifted m w c s v a b z = let u = putAt m w s c v in putAt m (putAt m u a c (cellAt m u b c)) b c z

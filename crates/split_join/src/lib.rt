@@ -1,9 +1,12 @@
-// Module 7 of document 01, the workers: a list cut at a path of precursors, and a list hung behind another.
+// Module 7 of document 01, the workers: a list cut at a path of precursors, a list hung behind another, and a list put before another.
+mod before;
+
 use arena::Index;
 use arena::Path;
 use arena::Slot;
 use arena::cell;
 use arena::put2;
+pub use before::join_before;
 use spans::farther;
 use spans::nearer;
 ghost use mathlib.Core.Path.{_≡_};

@@ -1,19 +1,18 @@
--- Append's cases in document 01's order: of the nodes, and of the model that each step leaves. Rests on model's Composing and Keeps.
+-- Append's cases in document 01's order: of the nodes, and of the model that each step leaves. Rests on model's Keeps.
 use Prim.Native.Nat.{ℕ, _+_, _≤_, _<_}
 use mathlib.Core.Path.{_≡_, refl, sym, ap, _∙_}
 use mathlib.Core.List.{List, [], _∷_, _++_}
 use lib.ListN.{length, set}
-use lib.Seq.{set-comm, set-getD}
+use lib.Seq.{set-getD}
 use native.Mathlib.Omega.{arith}
 use borrow.Author.Tests.{le-leb, lt-leb}
 use Rattle.model.specs.Nodes.{Node, keyAt, Sorted}
 use Rattle.model.specs.Lists.{lastKey, mergeIn, append}
 use Rattle.model.specs.Arena.{State, putList, encode}
-use Rattle.model.specs.Calls.{doSplit, doJoin, doAppend}
+use Rattle.model.specs.Calls.{doJoin, doAppend}
 use Rattle.model.specs.Passes.{decode, nodes}
-use Rattle.split_join.specs.Cuts.{Joins}
+use Rattle.split_join.specs.Cuts.{Joins, doBefore}
 use Rattle.structural.specs.Pairs.{Two, doMerge}
-use Rattle.model.proofs.Composing.{before-step}
 use Rattle.model.proofs.Keeps.{sorted-join, sorted-list}
 use Rattle.model.proofs.Splitting.{withLists}
 use Rattle.structural.proofs.Heads.{empty-is}
@@ -101,13 +100,8 @@ module _ {w : List ℕ} {m a b : ℕ} (p : Two w m a b) where
     pub can-precede : lastKey B ≤ keyAt A 0 → Joins w m b a
     can-precede l = record { onto = p .second; from = p .first; apart = λ e. p .apart (sym e); some = some-a; sorted = sorted-after B A sorted-b sorted-a some-a l }
 
-    pub preceded : keyAt B 0 < lastKey A → lastKey B ≤ keyAt A 0 → {u : List ℕ} → u ≡ encode (doSplit (doJoin S b a) b a 0) → u ≡ encode (doAppend S a b)
-    preceded k l q =
-        q ∙ ap encode (
-        before-step S a b (p .first .list) (p .second .list) (p .apart)
-        ∙ ap (withLists S) (set-comm (S .lists) b a [] (B ++ A) (λ e. p .apart (sym e)))
-        ∙ appended (B ++ A) (precedes A B some-a some-b k l)
-        )
+    pub preceded : keyAt B 0 < lastKey A → lastKey B ≤ keyAt A 0 → {u : List ℕ} → u ≡ encode (doBefore S a b) → u ≡ encode (doAppend S a b)
+    preceded k l q = q ∙ ap encode (appended (B ++ A) (precedes A B some-a some-b k l))
 
     -- else
     pub merged : keyAt B 0 < lastKey A → keyAt A 0 < lastKey B → {u : List ℕ} → u ≡ encode (doMerge S a b) → u ≡ encode (doAppend S a b)

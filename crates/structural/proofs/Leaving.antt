@@ -1,20 +1,16 @@
 -- Words that one step leaves and the next step takes up: those of a sound model of the same sizes. Rests on model's EveryCall and Builds.
-use Prim.Native.Nat.{ℕ, _+_}
+use Prim.Native.Nat.{ℕ}
 use mathlib.Core.Path.{_≡_, refl, sym, ap, _∙_}
-use mathlib.Core.List.{List, [], _++_}
-use lib.ListN.{length, set, length-set}
-use lib.Seq.{getD-set-same, lt-length-set}
+use mathlib.Core.List.{List}
+use lib.ListN.{length}
 use native.Mathlib.Omega.{arith}
-use Rattle.model.specs.Arena.{State, listOf, encode}
-use Rattle.model.specs.Calls.{doJoin, doSplit}
-use Rattle.model.specs.Passes.{decode, nodes, Sound, Passes}
+use Rattle.model.specs.Arena.{State, encode}
+use Rattle.model.specs.Passes.{decode, Sound, Passes}
 use Rattle.arena.specs.Owners.{Listed}
-use Rattle.split_join.specs.Cuts.{Splits, Joins}
 use Rattle.arena.proofs.Places.{length-encode}
 use Rattle.model.proofs.Builds.{passes-encode}
 use Rattle.model.proofs.EveryCall.{Alike, alike-sizes}
 use Rattle.model.proofs.Records.{decode-encode}
-use Rattle.split_join.proofs.JoinTurn.{like}
 
 pub record Left (w u : List ℕ) (T : State) : Type 0 where
   pub model : decode u ≡ T
@@ -36,23 +32,3 @@ still-listed g p = record {
   levels = p .levels ∙ sym (ap (λ (s : State). s .levels) (g .model) ∙ g .alike .levels);
   list = omega (arith, p .list, g .alike .lists, ap (λ (s : State). length (s .lists)) (g .model));
 }
-
--- ---- after a join ----
-module _ {w : List ℕ} {m a b : ℕ} (p : Joins w m a b) {u : List ℕ} (e : u ≡ encode (doJoin (decode w) a b)) where
-  joined : Left w u (doJoin (decode w) a b)
-  joined = left (p .onto .passes) (like p .sound-S)
-      (record { levels = refl; room = refl; lists = length-set (set (decode w .lists) a (nodes w a ++ nodes w b)) b [] ∙ length-set (decode w .lists) a (nodes w a ++ nodes w b) }) e
-
-  -- what was hung behind can go back
-  pub can-split : Splits u m a b 0
-  can-split = record {
-    from = still-listed joined (p .onto);
-    to = still-listed joined (p .from);
-    apart = p .apart;
-    empty = ap (λ (s : State). listOf s b) (joined .model)
-        ∙ getD-set-same (set (decode w .lists) a (nodes w a ++ nodes w b)) b [] [] (lt-length-set (decode w .lists) a (nodes w a ++ nodes w b) (p .from .list));
-    within = omega arith;
-  }
-
-  pub split-again : {v : List ℕ} → v ≡ encode (doSplit (decode u) a b 0) → v ≡ encode (doSplit (doJoin (decode w) a b) a b 0)
-  split-again f = f ∙ ap (λ (s : State). encode (doSplit s a b 0)) (joined .model)

@@ -2,4 +2,3 @@ pub mod Heads
 pub mod Leaving
 pub mod Appending
 pub mod Merging
-pub mod Trimming

@@ -1,24 +1,24 @@
 // Module 7 of document 01 (the crate's `structural.rs`): truncate, split and append, on an arena that passes.
 use arena::Index;
-use arena::Path;
 use arena::Slot;
 use arena::cell;
 use insert_remove::insert;
-use insert_remove::remove_after;
 use insert_remove::remove_at;
 use split_join::join;
+use split_join::join_before;
 use split_join::split;
+use trimming::trim;
 ghost use mathlib.Core.Path.{_≡_};
 ghost use mathlib.Core.List.{[]};
-ghost use Prim.Native.Nat.{_≤_, _<_};
+ghost use Prim.Native.Nat.{_<_};
 ghost use lib.ListN.{length};
 ghost use Rattle.model.specs.Nodes.{at, keyAt, smaller};
 ghost use Rattle.model.specs.Lists.{lastKey};
 ghost use Rattle.model.specs.Arena.{encode};
 ghost use Rattle.model.specs.Calls.{doTruncate, doSplit, doJoin, doAppend};
 ghost use Rattle.model.specs.Passes.{decode, nodes};
-ghost use Rattle.arena.specs.Owners.{Listed, Leads};
-ghost use Rattle.split_join.specs.Cuts.{Splits, Joins};
+ghost use Rattle.arena.specs.Owners.{Listed};
+ghost use Rattle.split_join.specs.Cuts.{Splits, Joins, doBefore};
 ghost use Rattle.structural.specs.Pairs.{Two, doMerge, movedFirst};
 
 fn first_key(w: &[u32], m: usize, list: Slot) -> u32
@@ -43,18 +43,6 @@ fn last_key(w: &[u32], m: usize, list: Slot) -> u32
 {
     let last = Slot(cell(w, m, list, 3));
     cell(w, m, last, 0)
-}
-
-// Frees what stands from index n on, first to last: each in its turn is just behind the path.
-fn trim(w: &mut [u32], m: usize, list: Slot, n: Index, path: Path)
-    requires { ⌜ Listed (now w) m (list .0) ⌝ }
-    requires { ⌜ n .0 ≤ length (nodes (now w) (list .0)) ⌝ }
-    requires { ⌜ Leads (now w) m (list .0) (n .0) path ⌝ }
-    ensures { λ _. ⌜ now (w .exit) ≡ encode (doTruncate (decode (now (w .entry))) (list .0) (n .0)) ⌝ }
-{
-    while n.0 < walk::length(w, m, list) {
-        remove_after(w, m, list, n, path);
-    }
 }
 
 // Keeps the first n nodes; a list of no more than n stays as it is, word for word.
@@ -98,13 +86,14 @@ fn follow(w: &mut [u32], m: usize, a: Slot, b: Slot)
     join(w, m, a, b, path);
 }
 
-// Append where b precedes a: a is hung behind b, and all of b goes back into a.
+// Append where b precedes a: the nodes of b are put before those of a.
 fn precede(w: &mut [u32], m: usize, a: Slot, b: Slot)
     requires { ⌜ Joins (now w) m (b .0) (a .0) ⌝ }
-    ensures { λ _. ⌜ now (w .exit) ≡ encode (doSplit (doJoin (decode (now (w .entry))) (b .0) (a .0)) (b .0) (a .0) 0) ⌝ }
+    ensures { λ _. ⌜ now (w .exit) ≡ encode (doBefore (decode (now (w .entry))) (a .0) (b .0)) ⌝ }
 {
-    follow(w, m, b, a);
-    split_at(w, m, b, a, Index(0));
+    let n = walk::length(w, m, b);
+    let path = walk::seek(w, m, b, Index(n));
+    join_before(w, m, a, b, path);
 }
 
 // Moves the first node of b to its place in a. The slot just freed is the first free one, so that the node keeps it.

@@ -1,20 +1,22 @@
--- `structural::precede` meets its contract: a join leaves words that pass, and the split goes on from them.
-use Rattle.structural.proofs.Leaving.{can-split, split-again}
+-- `structural::precede` meets its contract: the walk to the end of b leads to its length.
 use borrow.Author.Needs.{needs}
 use Rattle.structural.proofs.precede.Statement.{statement}
 use Rattle.structural.proofs.precede.Tie as tie
 
-follow-requires : tie.Need-follow-requires
-follow-requires c κs = search needs
+length-requires : tie.Need-length-requires
+length-requires c κs = search needs
 
-split-at-requires : tie.Need-split-at-requires
-split-at-requires c κs = can-split (c .before .before .before .before .before .before .pre) (c .before .before .before .follow .ensures)
+seek-requires : tie.Need-seek-requires
+seek-requires c κs = search needs
+
+join-before-requires : tie.Need-join-before-requires
+join-before-requires c κs = (c .before .before .before .before .before .before .pre, rw (c .before .before .before .length .ensures) at (c .before .seek .ensures))
 
 same-length : tie.Need-same-length
 same-length c = search needs
 
 returns : tie.Need-returns
-returns c = split-again (c .before .before .before .before .before .before .before .before .before .pre) (c .before .before .before .before .before .before .follow .ensures) (c .before .before .split-at .ensures)
+returns c = search needs
 
 pub precede-spec : {M : Type 1} → statement M
-precede-spec = tie.close (tie.spec follow-requires split-at-requires same-length returns)
+precede-spec = tie.close (tie.spec length-requires seek-requires join-before-requires same-length returns)

@@ -1,6 +1,6 @@
 -- `structural::truncate` meets its contract: a list that is short enough keeps every word; else the walk leads to n.
 use native.Mathlib.Omega.{arith}
-use Rattle.structural.proofs.Trimming.{kept-all}
+use Rattle.trimming.proofs.Freeing.{kept-all}
 use borrow.Author.Needs.{needs}
 use Rattle.structural.proofs.truncate.Statement.{statement}
 use Rattle.structural.proofs.truncate.Tie as tie
@@ -18,7 +18,13 @@ seek-requires : tie.Need-seek-requires
 seek-requires c κs = search needs
 
 trim-requires : tie.Need-trim-requires
-trim-requires c κs = (c .before .before .before .before .before .before .before .pre, (omega (arith, c .before .before .before .if1 .left, c .before .before .before .before .length .ensures), c .before .seek .ensures))
+trim-requires c κs = (
+  record {
+    listed = c .before .before .before .before .before .before .before .pre;
+    index = omega (arith, c .before .before .before .if1 .left, c .before .before .before .before .length .ensures);
+  },
+  c .before .seek .ensures,
+)
 
 same-length-2 : tie.Need-same-length-2
 same-length-2 c = search needs
