@@ -10,16 +10,14 @@ use native.Mathlib.Nat.{not-suc-le-zero, add-zero, mul-le-mul-right}
 use native.Mathlib.Omega.{arith}
 use borrow.Author.Tests.{lt-ltb}
 use Rattle.arena.specs.Owners.{Owner}
-use Rattle.model.specs.Arena.{State, nodeLinks, nodeWords, headWords, firstSlot, recordOf, records, header, encode, listOf}
-use Rattle.model.specs.Cells.{recordAt}
+use Rattle.model.specs.Arena.{width, toColumn, farColumn, State, nodeLinks, nodeWords, headWords, firstSlot, recordOf, records, header, encode, listOf}
+use Rattle.model.specs.Cells.{recordAt, cellAt}
 use Rattle.model.specs.Links.{target, distance, further}
 use Rattle.model.specs.Nodes.{Node, node, N, slotAt, heightAt, at}
 use Rattle.model.specs.Passes.{decode, times, timesAll, timesFree, Sound, Passes, Sizes, nodes}
+use Rattle.model.proofs.Columns.{cell-record, length-encode}
 use Rattle.model.proofs.Records.{rec-encode, record-node, length-record, placed, times-mid, timesAll-ge}
 use Rattle.model.proofs.Tests.{Test, hit, miss, test}
-
-pub word-rec : (M : ℕ) (w : List ℕ) (s c : ℕ) → c < 4 + 2 * M → getD w (8 + s * (4 + 2 * M) + c) 0 ≡ getD (recordAt M w s) c 0
-word-rec M w s c l = sym (getD-take (4 + 2 * M) (drop (8 + s * (4 + 2 * M)) w) c 0 l ∙ getD-drop (8 + s * (4 + 2 * M)) w c 0)
 
 link-words : (l₀ n ht : ℕ) (ys : List Node) (l : ℕ) → l < n → l₀ + l < ht
     → (getD (nodeLinks l₀ n ht ys) (2 * l) 0 ≡ target (suc (l₀ + l)) ys) × (getD (nodeLinks l₀ n ht ys) (suc (2 * l)) 0 ≡ distance (suc (l₀ + l)) ys)
@@ -30,13 +28,6 @@ link-words l₀ (suc n) ht ys (suc l) p q =
     let f : l₀ + suc l ≡ suc l₀ + l = omega arith in
     let i = link-words (suc l₀) n ht ys l (omega arith) (omega arith) in
     elim (test (suc l₀) ht) [ hit g k ↦ rw (g, e, f) i | miss g k ↦ rw (g, e, f) i ]
-
-length-recs : (W : ℕ) (f : ℕ → List ℕ) → ((s : ℕ) → length (f s) ≡ W) → (s n : ℕ) → length (records f s n) ≡ n * W
-length-recs W f l s zero = omega arith
-length-recs W f l s (suc n) = length-append (f s) (records f (suc s) n) ∙ omega (arith, l s, length-recs W f l (suc s) n)
-
-pub length-encode : (S : State) → length (encode S) ≡ 8 + (length (S .lists) + S .room) * (4 + 2 * S .levels)
-length-encode S = omega (arith, length-recs (4 + 2 * S .levels) (recordOf S) (length-record S) 0 (length (S .lists) + S .room))
 
 -- the record of an owner: its next, its links
 pub record Linked (M ht : ℕ) (ys : List Node) (R : List ℕ) : Type 0 where
@@ -64,12 +55,12 @@ module _ (S : State) (v : Sound S) (a : ℕ) (l : a < length (S .lists)) where
   owner-record (suc i) k = rw (node-record i k) (record { next = refl; links = λ c. refl })
 
 module _ (w : List ℕ) (p : Passes w) where
-  words-length : length w ≡ 8 + (length (decode w .lists) + decode w .room) * (4 + 2 * decode w .levels)
+  words-length : length w ≡ 8 + (length (decode w .lists) + decode w .room) * (width (decode w .levels))
   words-length = ap length (p .words) ∙ length-encode (decode w)
 
   -- a word of a record is in the slice
-  pub fits : (s c : ℕ) → s < length (decode w .lists) + decode w .room → c < 4 + 2 * decode w .levels → 8 + s * (4 + 2 * decode w .levels) + c < length w
-  fits s c l k = omega (arith, words-length, mul-le-mul-right (4 + 2 * decode w .levels) l)
+  pub fits : (s c : ℕ) → s < length (decode w .lists) + decode w .room → c < width (decode w .levels) → 8 + s * (width (decode w .levels)) + c < length w
+  fits s c l k = omega (arith, words-length, mul-le-mul-right (width (decode w .levels)) l)
 
   -- the words, as the state that they hold
   pub here : (M s : ℕ) → recordAt M w s ≡ recordAt M (encode (decode w)) s
@@ -87,27 +78,27 @@ module _ {w : List ℕ} {a r s h : ℕ} (o : Owner w a r s h) where
   pub linked : Linked (decode w .levels) (heightAt (decode w .levels) (nodes w a) r) (drop r (nodes w a)) (recordAt (decode w .levels) w s)
   linked = rw (here w (o .passes) (decode w .levels) s, o .slot-is) (owner-record (decode w) (o .passes .sound) a (o .list) r (o .within))
 
-  pub link-to : (l : ℕ) → suc l ≡ h → getD (recordAt (decode w .levels) w s) (4 + 2 * l) 0 ≡ target h (drop r (nodes w a))
+  pub link-to : (l : ℕ) → suc l ≡ h → getD (recordAt (decode w .levels) w s) (toColumn l) 0 ≡ target h (drop r (nodes w a))
   link-to l e =
       let M = decode w .levels in
       let ys = drop r (nodes w a) in
-      let four : 4 + 2 * l ≡ suc (suc (suc (suc (2 * l)))) = omega arith in
+      let four : toColumn l ≡ suc (suc (suc (suc (2 * l)))) = omega arith in
       let k : suc (0 + l) ≡ h = omega arith in
       ap (λ (c : ℕ). getD (recordAt M w s) c 0) four ∙ linked .links (2 * l)
       ∙ link-words 0 M (heightAt M (nodes w a) r) ys l (omega arith) (omega (arith, o .tall)) .0 ∙ ap (λ (g : ℕ). target g ys) k
 
-  pub link-far : (l : ℕ) → suc l ≡ h → getD (recordAt (decode w .levels) w s) (5 + 2 * l) 0 ≡ distance h (drop r (nodes w a))
+  pub link-far : (l : ℕ) → suc l ≡ h → getD (recordAt (decode w .levels) w s) (farColumn l) 0 ≡ distance h (drop r (nodes w a))
   link-far l e =
       let M = decode w .levels in
       let ys = drop r (nodes w a) in
-      let five : 5 + 2 * l ≡ suc (suc (suc (suc (suc (2 * l))))) = omega arith in
+      let five : farColumn l ≡ suc (suc (suc (suc (suc (2 * l))))) = omega arith in
       let k : suc (0 + l) ≡ h = omega arith in
       ap (λ (c : ℕ). getD (recordAt M w s) c 0) five ∙ linked .links (suc (2 * l))
       ∙ link-words 0 M (heightAt M (nodes w a) r) ys l (omega arith) (omega (arith, o .tall)) .1 ∙ ap (λ (g : ℕ). distance g ys) k
 
 -- the head's first word is the length
-pub length-word : (w : List ℕ) (p : Passes w) (a : ℕ) → a < length (decode w .lists) → length (nodes w a) ≡ getD w (8 + a * (4 + 2 * decode w .levels) + 0) 0
+pub length-word : (w : List ℕ) (p : Passes w) (a : ℕ) → a < length (decode w .lists) → length (nodes w a) ≡ cellAt (decode w .levels) w a 0
 length-word w p a l =
     let S = decode w in
     let e : recordAt (S .levels) (encode S) a ≡ headWords (S .levels) (listOf S a) = rec-encode S a (omega arith) ∙ (rw (lt-ltb a (length (S .lists)) l) refl) in
-    sym (word-rec (S .levels) w a 0 (omega arith) ∙ ap (λ (R : List ℕ). getD R 0 0) (here w p (S .levels) a ∙ e))
+    sym (cell-record (S .levels) w a 0 (omega arith) ∙ ap (λ (R : List ℕ). getD R 0 0) (here w p (S .levels) a ∙ e))

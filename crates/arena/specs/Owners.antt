@@ -14,6 +14,11 @@ pub record Listed (w : List ℕ) (m a : ℕ) : Type 0 where
   pub levels : m ≡ decode w .levels
   pub list : a < length (decode w .lists)
 
+-- List a has a node at index i.
+pub record Leaves (w : List ℕ) (m a i : ℕ) : Type 0 where
+  pub listed : Listed w m a
+  pub index : i < length (nodes w a)
+
 -- Slot s is at rank r of list a, and has the links below h.
 pub record Owner (w : List ℕ) (a r s h : ℕ) : Type 0 where
   pub passes : Passes w

@@ -1,7 +1,10 @@
 // Module 2 of document 01: slots, ranks and indexes, and the words of an arena by slot and column.
 ghost use mathlib.Core.Path.{_≡_};
+ghost use mathlib.Core.Bool.{cond};
 ghost use Prim.Native.Nat.{_+_, _*_, _≤_, _<_};
+ghost use lib.Dec.{eqb};
 ghost use lib.ListN.{length, getD, set};
+ghost use Rattle.model.specs.Nodes.{N};
 ghost use Rattle.model.specs.Cells.{place, Cell, cellAt, putAt};
 ghost use Rattle.model.specs.Arena.{headerWords, width};
 
@@ -171,6 +174,16 @@ pub fn put2(w: &mut [u32], m: usize, c: usize, x: Slot, v: u32, y: Slot, u: u32)
 {
     put(w, m, x, c, v);
     put(w, m, y, c, u);
+}
+
+// The word for the last node of a list of n nodes, of which `slot` is the last if there is one.
+pub fn last_word(n: u32, slot: u32) -> u32
+    ensures { λ r. ⌜ r ≡ cond (eqb n 0) N slot ⌝ }
+{
+    if n == 0 {
+        return Slot::NONE.0;
+    }
+    slot
 }
 
 // Word i of the header.

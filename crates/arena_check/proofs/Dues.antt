@@ -10,13 +10,14 @@ use Rattle.model.specs.Cells.{cellAt}
 use Rattle.model.specs.Links.{target, distance, further}
 use Rattle.model.specs.Nodes.{Node, N}
 use Rattle.model.specs.Passes.{LinkIs, Absent}
+use Rattle.model.specs.Arena.{toColumn, farColumn}
 use Rattle.model.proofs.Links.{past}
 use Rattle.arena_check.specs.Walked.{Spans, Meets}
 
 -- the link at level l of slot o, which has rank q, is right where xs are left after rank r
 pub record Due (M : ℕ) (w : List ℕ) (o q l r : ℕ) (xs : List Node) : Type 0 where
-  pub to : cellAt M w o (4 + 2 * l) ≡ target (suc l) xs
-  pub far : cellAt M w o (5 + 2 * l) ≡ past (r - q) (distance (suc l) xs)
+  pub to : cellAt M w o (toColumn l) ≡ target (suc l) xs
+  pub far : cellAt M w o (farColumn l) ≡ past (r - q) (distance (suc l) xs)
 
 past-none : (d : ℕ) → past 0 d ≡ d
 past-none zero = refl
@@ -50,13 +51,13 @@ module _ (M : ℕ) (w : List ℕ) (l : ℕ) where
     pub due-meets : l < y .height → Due M w o q l r (y ∷ ys) → Meets M w o q l (y .slot) (suc r)
     due-meets p h =
         let t : leb (suc l) (y .height) ≡ true = le-leb (suc l) (y .height) p in
-        let e : cellAt M w o (5 + 2 * l) ≡ suc (r - q + 0) = h .far ∙ (rw t refl) in
+        let e : cellAt M w o (farColumn l) ≡ suc (r - q + 0) = h .far ∙ (rw t refl) in
         record { to = h .to ∙ (rw t refl); far = record { sum = omega arith } }
 
     pub meets-due : l < y .height → Meets M w o q l (y .slot) (suc r) → Due M w o q l r (y ∷ ys)
     meets-due p h =
         let t : leb (suc l) (y .height) ≡ true = le-leb (suc l) (y .height) p in
-        let e : cellAt M w o (5 + 2 * l) ≡ suc (r - q + 0) = omega (arith, h .far .sum) in
+        let e : cellAt M w o (farColumn l) ≡ suc (r - q + 0) = omega (arith, h .far .sum) in
         record { to = h .to ∙ (rw t refl); far = e ∙ (rw t refl) }
 
     -- it is not: the link goes on

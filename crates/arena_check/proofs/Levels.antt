@@ -10,6 +10,7 @@ use native.Mathlib.Omega.{arith}
 use Rattle.model.specs.Cells.{cellAt}
 use Rattle.model.specs.Nodes.{N}
 use Rattle.model.specs.Passes.{Absent}
+use Rattle.model.specs.Arena.{toColumn, farColumn}
 use Rattle.model.proofs.Tests.{Test, hit, miss, test}
 use Rattle.arena_check.specs.declared.Dims.{Dims}
 use Rattle.arena.specs.Says.{Says}
@@ -51,15 +52,15 @@ module _ (n : ℕ) (P : ℕ → Type 0) where
 
 -- ---- absent links ----
 module _ (M : ℕ) (w : List ℕ) (o : ℕ → ℕ) (h : ℕ) where
-  pub absent-more : (l t f : ℕ) → Upto h M l (λ k. Absent M w (o k) k) → l < M → t ≡ cellAt M w (o l) (4 + 2 * l) → t ≡ N → f ≡ cellAt M w (o l) (5 + 2 * l) → f ≡ 0
+  pub absent-more : (l t f : ℕ) → Upto h M l (λ k. Absent M w (o k) k) → l < M → t ≡ cellAt M w (o l) (toColumn l) → t ≡ N → f ≡ cellAt M w (o l) (farColumn l) → f ≡ 0
       → Upto h M (l + 1) (λ k. Absent M w (o k) k)
   absent-more l t f u m p q i j = upto-more h M l (λ k. Absent M w (o k) k) u m (record { to = sym p ∙ q; far = sym i ∙ j })
 
-  pub absent-no-to : (l t : ℕ) → Upto h M l (λ k. Absent M w (o k) k) → l < M → t ≡ cellAt M w (o l) (4 + 2 * l) → (t ≡ N → ⊥) → Says false (AbsentFrom M w o h)
+  pub absent-no-to : (l t : ℕ) → Upto h M l (λ k. Absent M w (o k) k) → l < M → t ≡ cellAt M w (o l) (toColumn l) → (t ≡ N → ⊥) → Says false (AbsentFrom M w o h)
   unfolding AbsentFrom
   absent-no-to l t u m p n = say-no (λ a. n (p ∙ a l (u .above) m .to))
 
-  pub absent-no-far : (l f : ℕ) → Upto h M l (λ k. Absent M w (o k) k) → l < M → f ≡ cellAt M w (o l) (5 + 2 * l) → (f ≡ 0 → ⊥) → Says false (AbsentFrom M w o h)
+  pub absent-no-far : (l f : ℕ) → Upto h M l (λ k. Absent M w (o k) k) → l < M → f ≡ cellAt M w (o l) (farColumn l) → (f ≡ 0 → ⊥) → Says false (AbsentFrom M w o h)
   unfolding AbsentFrom
   absent-no-far l f u m p n = say-no (λ a. n (p ∙ a l (u .above) m .far))
 
@@ -78,16 +79,16 @@ module _ (M : ℕ) (w : List ℕ) (h : ℕ) (os qs : List ℕ) (s r : ℕ) where
   pub close-none : Upto 0 h 0 Met
   close-none = upto-none 0 h Met (omega arith)
 
-  pub close-more : (l t f : ℕ) (b : Bool) → Upto 0 h l Met → l < h → t ≡ cellAt M w (getD os l 0) (4 + 2 * l) → t ≡ s
-      → f ≡ cellAt M w (getD os l 0) (5 + 2 * l) → Says b (Spans (getD qs l 0) f r) → b ≡ true → Upto 0 h (l + 1) Met
+  pub close-more : (l t f : ℕ) (b : Bool) → Upto 0 h l Met → l < h → t ≡ cellAt M w (getD os l 0) (toColumn l) → t ≡ s
+      → f ≡ cellAt M w (getD os l 0) (farColumn l) → Says b (Spans (getD qs l 0) f r) → b ≡ true → Upto 0 h (l + 1) Met
   unfolding Met
   close-more l t f b u m p q i v e = upto-more 0 h l Met u m (record { to = sym p ∙ q; far = rw (← i) (yes v e) })
 
-  pub close-no-to : (l t : ℕ) → l < h → t ≡ cellAt M w (getD os l 0) (4 + 2 * l) → (t ≡ s → ⊥) → Says false (Closes M w h os qs s r)
+  pub close-no-to : (l t : ℕ) → l < h → t ≡ cellAt M w (getD os l 0) (toColumn l) → (t ≡ s → ⊥) → Says false (Closes M w h os qs s r)
   unfolding Closes
   close-no-to l t m p n = say-no (λ a. n (p ∙ a l m .to))
 
-  pub close-no-far : (l f : ℕ) (b : Bool) → l < h → f ≡ cellAt M w (getD os l 0) (5 + 2 * l) → Says b (Spans (getD qs l 0) f r) → b ≡ false → Says false (Closes M w h os qs s r)
+  pub close-no-far : (l f : ℕ) (b : Bool) → l < h → f ≡ cellAt M w (getD os l 0) (farColumn l) → Says b (Spans (getD qs l 0) f r) → b ≡ false → Says false (Closes M w h os qs s r)
   unfolding Closes
   close-no-far l f b m p v e = say-no (λ a. no v e (rw p (a l m .far)))
 

@@ -7,14 +7,15 @@ use native.Mathlib.Nat.{mul-le-mul-right}
 use native.Mathlib.Numerals.{add-one}
 use native.Mathlib.Omega.{arith}
 use Rattle.model.specs.Cells.{Cell, cellAt}
+use Rattle.model.specs.Arena.{width}
 use Rattle.arena_check.specs.declared.Dims.{Dims}
 use Rattle.arena_check.specs.Sizes.{Shape, lengths}
 
-pub cell-in : (w : List ℕ) (d : Dims) (s c : ℕ) → Shape w d → s < d .lists + d .room → c < 4 + 2 * d .levels → Cell w (d .levels) s c
+pub cell-in : (w : List ℕ) (d : Dims) (s c : ℕ) → Shape w d → s < d .lists + d .room → c < width (d .levels) → Cell w (d .levels) s c
 cell-in w d s c v l k = record {
   small = v .ranges .levels-most;
   column = k;
-  inside = omega (arith, v .size, mul-le-mul-right (4 + 2 * d .levels) l);
+  inside = omega (arith, v .size, mul-le-mul-right (width (d .levels)) l);
 }
 
 -- ---- the lengths, head by head ----

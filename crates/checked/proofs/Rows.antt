@@ -12,7 +12,7 @@ use Rattle.model.specs.Nodes.{Node}
 use Rattle.model.specs.Arena.{State, encode, listOf}
 use Rattle.model.specs.Passes.{decode, Passes}
 use Rattle.model.specs.Calls.{Call, insertKey, splitAt, Answer, answer, refusal, accepted, refused, allowanceOf, performed, answerTo, resultOf, row3, row4, row7, row8}
-use Rattle.arena.proofs.Places.{length-encode}
+use Rattle.model.proofs.Columns.{length-encode}
 use Rattle.checked.specs.Kept.{Kept}
 
 -- ---- the rows ----

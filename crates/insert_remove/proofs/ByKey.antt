@@ -21,13 +21,13 @@ use Rattle.model.proofs.EveryCall.{found-within}
 use Rattle.model.proofs.Keeps.{each-get, sorted-insert}
 use Rattle.model.proofs.Searching.{walk-tally}
 use Rattle.model.proofs.Walk.{smaller-le, tally-le}
-use Rattle.arena.specs.Owners.{Listed}
+use Rattle.arena.specs.Owners.{Listed, Leaves}
 use Rattle.arena.specs.declared.Index.{Index}
 use Rattle.walk.specs.Answers.{answerOf}
 use Rattle.walk.specs.declared.Searched.{Searched}
 use Rattle.walk.specs.declared.Searched.the-variants.{Found, Missing, Beyond}
 use Rattle.walk.proofs.Searched.{the-type}
-use Rattle.insert_remove.specs.Changes.{insertedAt, Enters, Leaves}
+use Rattle.insert_remove.specs.Changes.{insertedAt, Enters}
 use Rattle.insert_remove.specs.Answers.{RemovedKey}
 use Rattle.insert_remove.specs.declared.Removed.the-variants as removed
 

@@ -12,7 +12,7 @@ use native.Mathlib.Omega.{arith}
 use Rattle.model.specs.Nodes.{Node, node, N, slotAt}
 use Rattle.model.specs.Links.{further, target, distance}
 use Rattle.model.specs.Walks.{last}
-use Rattle.model.specs.Arena.{State, absent, firstFree, freeWords, recordOf, slots-of}
+use Rattle.model.specs.Arena.{toColumn, farColumn, State, absent, firstFree, freeWords, recordOf, slots-of}
 use Rattle.model.specs.Cells.{cellAt, putAt}
 use Rattle.model.specs.Passes.{decode, nodes}
 use Rattle.model.proofs.Counting.{list-few}
@@ -35,10 +35,10 @@ absent-at zero l k = absurd (not-suc-le-zero k)
 absent-at (suc n) zero k = (refl, refl)
 absent-at (suc n) (suc l) k = let e : 2 * suc l ≡ suc (suc (2 * l)) = omega arith in rw e (absent-at n l (omega arith))
 
-pub free-link : (M : ℕ) (fs : List ℕ) (l : ℕ) → l < M → (getD (freeWords M fs) (4 + 2 * l) 0 ≡ N) × (getD (freeWords M fs) (5 + 2 * l) 0 ≡ 0)
+pub free-link : (M : ℕ) (fs : List ℕ) (l : ℕ) → l < M → (getD (freeWords M fs) (toColumn l) 0 ≡ N) × (getD (freeWords M fs) (farColumn l) 0 ≡ 0)
 free-link M fs l k =
-    let four : 4 + 2 * l ≡ suc (suc (suc (suc (2 * l)))) = omega arith in
-    let five : 5 + 2 * l ≡ suc (suc (suc (suc (suc (2 * l))))) = omega arith in
+    let four : toColumn l ≡ suc (suc (suc (suc (2 * l)))) = omega arith in
+    let five : farColumn l ≡ suc (suc (suc (suc (suc (2 * l))))) = omega arith in
     (ap (λ (c : ℕ). getD (freeWords M fs) c 0) four ∙ absent-at M l k .0, ap (λ (c : ℕ). getD (freeWords M fs) c 0) five ∙ absent-at M l k .1)
 
 -- distances are small
@@ -139,14 +139,14 @@ module _ {w₀ : List ℕ} {m a i k h : ℕ} (p : Enters w₀ m a i k h) where
     pub rank-le : r ≤ place
     rank-le = omega (arith, st .within, length-A)
 
-    to-is : cellAt m w s (4 + 2 * l) ≡ target (suc l) B
+    to-is : cellAt m w s (toColumn l) ≡ target (suc l) B
     to-is = old-to-is H o-in (p .listed .levels) small g kl st
 
-    far-is : cellAt m w s (5 + 2 * l) ≡ past (length A - r) (distance (suc l) B)
+    far-is : cellAt m w s (farColumn l) ≡ past (length A - r) (distance (suc l) B)
     far-is = old-far-is H o-in (p .listed .levels) small g kl st
 
-    o-far : cellAt m w o (5 + 2 * l) ≡ 0
-    o-far = g .mixed .above o (5 + 2 * l) o-in (omega arith) (omega arith) ∙ ap (λ (R : List ℕ). getD R (5 + 2 * l) 0) o-S ∙ free-link (S .levels) (drop 1 (S .free)) l lm .1
+    o-far : cellAt m w o (farColumn l) ≡ 0
+    o-far = g .mixed .above o (farColumn l) o-in (omega arith) (omega arith) ∙ ap (λ (R : List ℕ). getD R (farColumn l) 0) o-S ∙ free-link (S .levels) (drop 1 (S .free)) l lm .1
 
     pub level-is : {o′ : ℕ} → o′ ≡ o → Level w m l s o′ (place - r)
     level-is eo = rw (eo, ep) (record {
@@ -161,11 +161,11 @@ module _ {w₀ : List ℕ} {m a i k h : ℕ} (p : Enters w₀ m a i k h) where
     pub turn : {o′ h′ : ℕ} → o′ ≡ o → h′ ≡ h → {x : List ℕ} → LevelIn m l h′ s o′ (place - r) w x → Relinked S T (take 8 w₀) m (l + 1) x
     turn eo eh {x} z = turn-o (rw (eo, eh, ep) at z)
       where
-        T-to : getD (recordOf T o) (4 + 2 * l) 0 ≡ cond (ltb l h) (target (suc l) B) N
-        T-to = ap (λ (R : List ℕ). getD R (4 + 2 * l) 0) (f-T like) ∙ says-to (S .levels) l lm .node nd B
+        T-to : getD (recordOf T o) (toColumn l) 0 ≡ cond (ltb l h) (target (suc l) B) N
+        T-to = ap (λ (R : List ℕ). getD R (toColumn l) 0) (f-T like) ∙ says-to (S .levels) l lm .node nd B
 
-        T-far : getD (recordOf T o) (5 + 2 * l) 0 ≡ cond (ltb l h) (distance (suc l) B) 0
-        T-far = ap (λ (R : List ℕ). getD R (5 + 2 * l) 0) (f-T like) ∙ says-far (S .levels) l lm .node nd B
+        T-far : getD (recordOf T o) (farColumn l) 0 ≡ cond (ltb l h) (distance (suc l) B) 0
+        T-far = ap (λ (R : List ℕ). getD R (farColumn l) 0) (f-T like) ∙ says-far (S .levels) l lm .node nd B
 
         ne : s ≢ o
         ne = not-f like s (st .owner)
@@ -173,16 +173,16 @@ module _ {w₀ : List ℕ} {m a i k h : ℕ} (p : Enters w₀ m a i k h) where
         turn-o : LevelIn m l h s o (i - r) w x → Relinked S T (take 8 w₀) m (l + 1) x
         turn-o v = elim (test (suc l) h) [
           | hit e c ↦
-              turned H o-in (p .listed .levels) small g kl st ne o (i - r + 1) (cellAt m w s (4 + 2 * l)) (cellAt m w s (5 + 2 * l) - (i - r))
+              turned H o-in (p .listed .levels) small g kl st ne o (i - r + 1) (cellAt m w s (toColumn l)) (cellAt m w s (farColumn l) - (i - r))
               (rw e refl) (rw e (omega (arith, length-A)))
               (T-to ∙ (rw e (sym to-is)))
               (T-far ∙ (rw e (sym (ap (λ (d : ℕ). d - (i - r)) far-is ∙ ap (λ (n : ℕ). past n (distance (suc l) B) - (i - r)) back-is ∙ un-past (i - r) (distance (suc l) B)))))
-              (putAt m (putAt m w s (4 + 2 * l) o) o (4 + 2 * l) (cellAt m w s (4 + 2 * l))) refl x (v .under c)
+              (putAt m (putAt m w s (toColumn l) o) o (toColumn l) (cellAt m w s (toColumn l))) refl x (v .under c)
           | miss e c ↦
-              spanned H o-in (p .listed .levels) small g kl st ne (further (cellAt m w s (5 + 2 * l))) (rw e refl)
+              spanned H o-in (p .listed .levels) small g kl st ne (further (cellAt m w s (farColumn l))) (rw e refl)
               (ap further far-is ∙ further-past (length A - r) (distance (suc l) B) ∙ (rw e refl))
-              (T-to ∙ (rw e (sym (ap (λ (R : List ℕ). getD R (4 + 2 * l) 0) o-S ∙ free-link (S .levels) (drop 1 (S .free)) l lm .0))))
-              (T-far ∙ (rw e (sym (ap (λ (R : List ℕ). getD R (5 + 2 * l) 0) o-S ∙ free-link (S .levels) (drop 1 (S .free)) l lm .1))))
+              (T-to ∙ (rw e (sym (ap (λ (R : List ℕ). getD R (toColumn l) 0) o-S ∙ free-link (S .levels) (drop 1 (S .free)) l lm .0))))
+              (T-far ∙ (rw e (sym (ap (λ (R : List ℕ). getD R (farColumn l) 0) o-S ∙ free-link (S .levels) (drop 1 (S .free)) l lm .1))))
               x (v .over (omega arith))
         ]
           where

@@ -17,7 +17,7 @@ use Rattle.model.proofs.Inserting.{not-f, f-T}
 use Rattle.model.proofs.Owners.{says-next}
 use Rattle.model.proofs.Tests.{same, other, same?}
 use Rattle.model.proofs.Walk.{last-zero}
-use Rattle.arena.proofs.Places.{length-encode}
+use Rattle.model.proofs.Columns.{length-encode}
 use Rattle.arena.proofs.Relink.{Half, there}
 use Rattle.insert_remove.specs.Changes.{insertedAt, Enters, Lies, Rehung, columns}
 use Rattle.insert_remove.proofs.Columns.{columns-done, header-done}

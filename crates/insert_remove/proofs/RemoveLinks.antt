@@ -12,7 +12,7 @@ use Rattle.model.specs.Nodes.{Node, node, N, slotAt, at}
 use Rattle.model.specs.Links.{further, target, distance}
 use Rattle.model.specs.Lists.{removeAt}
 use Rattle.model.specs.Walks.{last}
-use Rattle.model.specs.Arena.{State, recordOf, slots-of}
+use Rattle.model.specs.Arena.{toColumn, farColumn, State, recordOf, slots-of}
 use Rattle.model.specs.Calls.{doRemove}
 use Rattle.model.specs.Cells.{cellAt, putAt}
 use Rattle.model.specs.Passes.{decode, nodes}
@@ -25,9 +25,9 @@ use Rattle.model.proofs.Owners.{says-to, says-far}
 use Rattle.model.proofs.Splitting.{slot-take}
 use Rattle.model.proofs.Tests.{hit, miss, test}
 use Rattle.model.proofs.Walk.{last-le}
-use Rattle.arena.specs.Owners.{Before}
+use Rattle.arena.specs.Owners.{Before, Leaves}
 use Rattle.arena.proofs.Relink.{Relinked, relink-start, old-far-is, turned}
-use Rattle.insert_remove.specs.Changes.{Leaves, Rehung}
+use Rattle.insert_remove.specs.Changes.{Rehung}
 use Rattle.insert_remove.specs.Levels.{Level, LevelOut}
 use Rattle.spans.proofs.Distances.{farther-is}
 use Rattle.insert_remove.proofs.InsertLinks.{free-link, distance-le, past-le, further-past}
@@ -118,16 +118,16 @@ module _ {w₀ : List ℕ} {m a i : ℕ} (p : Leaves w₀ m a i) where
     pub rank-le : r ≤ place
     rank-le = omega (arith, st .within, length-A)
 
-    far-is : cellAt m w s (5 + 2 * l) ≡ past (length A - r) (distance (suc l) (nd ∷ B))
+    far-is : cellAt m w s (farColumn l) ≡ past (length A - r) (distance (suc l) (nd ∷ B))
     far-is = old-far-is H o-in (p .listed .levels) small g kl st
 
-    o-to : cellAt m w o (4 + 2 * l) ≡ cond (ltb l (nd .height)) (target (suc l) B) N
-    o-to = g .mixed .above o (4 + 2 * l) o-in (omega arith) (omega arith) ∙ ap (λ (R : List ℕ). getD R (4 + 2 * l) 0) (f-T like) ∙ says-to (S .levels) l lm .node nd B
+    o-to : cellAt m w o (toColumn l) ≡ cond (ltb l (nd .height)) (target (suc l) B) N
+    o-to = g .mixed .above o (toColumn l) o-in (omega arith) (omega arith) ∙ ap (λ (R : List ℕ). getD R (toColumn l) 0) (f-T like) ∙ says-to (S .levels) l lm .node nd B
 
-    o-far : cellAt m w o (5 + 2 * l) ≡ cond (ltb l (nd .height)) (distance (suc l) B) 0
-    o-far = g .mixed .above o (5 + 2 * l) o-in (omega arith) (omega arith) ∙ ap (λ (R : List ℕ). getD R (5 + 2 * l) 0) (f-T like) ∙ says-far (S .levels) l lm .node nd B
+    o-far : cellAt m w o (farColumn l) ≡ cond (ltb l (nd .height)) (distance (suc l) B) 0
+    o-far = g .mixed .above o (farColumn l) o-in (omega arith) (omega arith) ∙ ap (λ (R : List ℕ). getD R (farColumn l) 0) (f-T like) ∙ says-far (S .levels) l lm .node nd B
 
-    o-far-le : cellAt m w o (5 + 2 * l) ≤ length B
+    o-far-le : cellAt m w o (farColumn l) ≤ length B
     o-far-le = elim (test (suc l) (nd .height)) [
       | hit e c ↦ omega (arith, rw e at o-far, distance-le (suc l) B)
       | miss e c ↦ omega (arith, rw e at o-far)
@@ -149,32 +149,32 @@ module _ {w₀ : List ℕ} {m a i : ℕ} (p : Leaves w₀ m a i) where
         ne : s ≢ o
         ne = not-f like s (st .owner)
 
-        T-to : getD (recordOf T o) (4 + 2 * l) 0 ≡ N
-        T-to = ap (λ (R : List ℕ). getD R (4 + 2 * l) 0) (f-S like) ∙ free-link (S .levels) (S .free) l lm .0
+        T-to : getD (recordOf T o) (toColumn l) 0 ≡ N
+        T-to = ap (λ (R : List ℕ). getD R (toColumn l) 0) (f-S like) ∙ free-link (S .levels) (S .free) l lm .0
 
-        T-far : getD (recordOf T o) (5 + 2 * l) 0 ≡ 0
-        T-far = ap (λ (R : List ℕ). getD R (5 + 2 * l) 0) (f-S like) ∙ free-link (S .levels) (S .free) l lm .1
+        T-far : getD (recordOf T o) (farColumn l) 0 ≡ 0
+        T-far = ap (λ (R : List ℕ). getD R (farColumn l) 0) (f-S like) ∙ free-link (S .levels) (S .free) l lm .1
 
         back-is : i - r ≡ length A - r
         back-is = omega (arith, length-A)
 
-        S-to : getD (recordOf S o) (4 + 2 * l) 0 ≡ cond (ltb l (nd .height)) (target (suc l) B) N
-        S-to = ap (λ (R : List ℕ). getD R (4 + 2 * l) 0) (f-T like) ∙ says-to (S .levels) l lm .node nd B
+        S-to : getD (recordOf S o) (toColumn l) 0 ≡ cond (ltb l (nd .height)) (target (suc l) B) N
+        S-to = ap (λ (R : List ℕ). getD R (toColumn l) 0) (f-T like) ∙ says-to (S .levels) l lm .node nd B
 
-        S-far : getD (recordOf S o) (5 + 2 * l) 0 ≡ cond (ltb l (nd .height)) (distance (suc l) B) 0
-        S-far = ap (λ (R : List ℕ). getD R (5 + 2 * l) 0) (f-T like) ∙ says-far (S .levels) l lm .node nd B
+        S-far : getD (recordOf S o) (farColumn l) 0 ≡ cond (ltb l (nd .height)) (distance (suc l) B) 0
+        S-far = ap (λ (R : List ℕ). getD R (farColumn l) 0) (f-T like) ∙ says-far (S .levels) l lm .node nd B
 
         turn-o : LevelOut m l (nd .height) s o (i - r) w x → Relinked S T (take 8 w₀) m (l + 1) x
         turn-o v = elim (test (suc l) (nd .height)) [
           | hit e c ↦
-              let f = cellAt m w o (5 + 2 * l) in
+              let f = cellAt m w o (farColumn l) in
               let fe : f ≡ distance (suc l) B = o-far ∙ (rw e refl) in
-              turned H o-in (p .listed .levels) small g kl st ne (cellAt m w o (4 + 2 * l)) (cond (eqb f 0) 0 (f + (i - r))) N 0
+              turned H o-in (p .listed .levels) small g kl st ne (cellAt m w o (toColumn l)) (cond (eqb f 0) 0 (f + (i - r))) N 0
               (o-to ∙ (rw e refl)) (farther-is (i - r) f ∙ ap (past (i - r)) fe ∙ ap (λ (n : ℕ). past n (distance (suc l) B)) back-is) T-to T-far
-              (putAt m (putAt m w s (4 + 2 * l) (cellAt m w o (4 + 2 * l))) o (4 + 2 * l) N) refl x (v .under c)
+              (putAt m (putAt m w s (toColumn l) (cellAt m w o (toColumn l))) o (toColumn l) N) refl x (v .under c)
           | miss e c ↦
               let k : past (length A - r) (distance (suc l) (nd ∷ B)) ≡ further (past (length A - r) (distance (suc l) B)) = rw e (sym (further-past (length A - r) (distance (suc l) B))) in
-              spanned H o-in (p .listed .levels) small g kl st ne (cellAt m w s (5 + 2 * l) - 1) (rw e refl)
+              spanned H o-in (p .listed .levels) small g kl st ne (cellAt m w s (farColumn l) - 1) (rw e refl)
               (ap (λ (d : ℕ). d - 1) (far-is ∙ k) ∙ less-further (past (length A - r) (distance (suc l) B)))
               (T-to ∙ sym (S-to ∙ (rw e refl))) (T-far ∙ sym (S-far ∙ (rw e refl))) x (v .over (omega arith))
         ]

@@ -19,8 +19,9 @@ use Rattle.model.proofs.Owners.{says-next}
 use Rattle.model.proofs.Splitting.{last-slot-take}
 use Rattle.model.proofs.Tests.{same, other, same?}
 use Rattle.model.proofs.Walk.{last-zero}
+use Rattle.arena.specs.Owners.{Leaves}
 use Rattle.arena.proofs.Relink.{Half, there}
-use Rattle.insert_remove.specs.Changes.{Leaves, Lies, Rehung, columns}
+use Rattle.insert_remove.specs.Changes.{Lies, Rehung, columns}
 use Rattle.insert_remove.proofs.Columns.{columns-done, header-done}
 use Rattle.insert_remove.proofs.InsertWhole.{last-new, first-is, number-is}
 use Rattle.insert_remove.proofs.RemoveLinks.{H, like, small, few, o-in, length-A, stage-of, remove-start}

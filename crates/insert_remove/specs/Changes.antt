@@ -24,11 +24,6 @@ pub record Enters (w : List ℕ) (m a i k h : ℕ) : Type 0 where
   pub within : i ≤ length (nodes w a)
   pub sorted : Sorted (insertAt i (node (firstFree (decode w .free)) k h) (nodes w a))
 
--- The node at index i of list a can go.
-pub record Leaves (w : List ℕ) (m a i : ℕ) : Type 0 where
-  pub listed : Listed w m a
-  pub index : i < length (nodes w a)
-
 -- The record of slot s lies in the slice.
 pub record Lies (w : List ℕ) (m s : ℕ) : Type 0 where
   pub small : m ≤ 16

@@ -24,8 +24,8 @@ ghost use Rattle.model.specs.Links.{further};
 ghost use Rattle.model.specs.Arena.{firstFree};
 ghost use Rattle.model.specs.Calls.{doRemove};
 ghost use Rattle.model.specs.Passes.{decode, nodes};
-ghost use Rattle.arena.specs.Owners.{Leads};
-ghost use Rattle.insert_remove.specs.Changes.{insertedAt, Enters, Leaves, Rehung};
+ghost use Rattle.arena.specs.Owners.{Leads, Leaves};
+ghost use Rattle.insert_remove.specs.Changes.{insertedAt, Enters, Rehung};
 ghost use Rattle.insert_remove.specs.Levels.{Level, LevelIn, LevelOut};
 
 // Level l, where a node of height h goes in `back` ranks behind the precursor s.

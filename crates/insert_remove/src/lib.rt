@@ -30,8 +30,8 @@ ghost use Rattle.model.specs.Nodes.{N, keyAt};
 ghost use Rattle.model.specs.Arena.{headerWords, firstFreeWord, freeWord, encode};
 ghost use Rattle.model.specs.Calls.{doInsert, doRemove};
 ghost use Rattle.model.specs.Passes.{decode, nodes};
-ghost use Rattle.arena.specs.Owners.{Listed, Leads};
-ghost use Rattle.insert_remove.specs.Changes.{insertedAt, Enters, Leaves, Lies, columns};
+ghost use Rattle.arena.specs.Owners.{Listed, Leads, Leaves};
+ghost use Rattle.insert_remove.specs.Changes.{insertedAt, Enters, Lies, columns};
 ghost use Rattle.insert_remove.specs.Answers.{RemovedKey};
 
 // What changes of a list's head.

@@ -20,9 +20,9 @@ use Rattle.model.proofs.Records.{decode-encode}
 use Rattle.model.proofs.Splitting.{slot-take}
 use Rattle.model.proofs.Tests.{hit, miss, test}
 use Rattle.model.proofs.Walk.{last-le}
-use Rattle.arena.specs.Owners.{Listed, Leads}
+use Rattle.arena.specs.Owners.{Listed, Leads, Leaves}
 use Rattle.arena.specs.declared.Path.{Path}
-use Rattle.insert_remove.specs.Changes.{insertedAt, Enters, Leaves}
+use Rattle.insert_remove.specs.Changes.{insertedAt, Enters}
 use Rattle.levelling.specs.Turns.{levelledAt, Passed, Relevelled}
 
 -- the order is that of the keys

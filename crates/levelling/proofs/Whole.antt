@@ -13,10 +13,9 @@ use Rattle.model.specs.Cells.{Cell, cellAt}
 use Rattle.model.specs.Passes.{decode, nodes}
 use Rattle.model.proofs.Counting.{list-few}
 use Rattle.model.proofs.Levels.{twos-le}
-use Rattle.arena.specs.Owners.{Listed, Leads}
+use Rattle.arena.specs.Owners.{Listed, Leads, Leaves}
 use Rattle.arena.specs.declared.Path.{Path}
 use Rattle.arena.proofs.Places.{fits, length-word}
-use Rattle.insert_remove.specs.Changes.{Leaves}
 use Rattle.levelling.specs.Turns.{levelledAt, levelledFrom, Full, Relevelled}
 use Rattle.levelling.proofs.OneNode.{listed-in, is-T, nodes-v}
 
@@ -64,8 +63,7 @@ module _ {w : List ℕ} {m a : ℕ} (p : Listed w m a) where
   cell-count = rw (p .levels) (record { small = p .passes .sizes .levels-most; column = omega arith; inside = fits w (p .passes) a 0 (omega (arith, p .list)) (omega arith) })
 
   pub count-is : {n : ℕ} → n ≡ cellAt m w a 0 → length (nodes w a) ≡ n
-  unfolding cellAt
-  count-is e = sym (e ∙ ap (λ (k : ℕ). getD w (8 + a * (4 + 2 * k) + 0) 0) (p .levels) ∙ sym (length-word w (p .passes) a (p .list)))
+  count-is e = sym (e ∙ ap (λ (k : ℕ). cellAt k w a 0) (p .levels) ∙ sym (length-word w (p .passes) a (p .list)))
 
   pub few : length (nodes w a) ≤ 65535
   few = omega (arith, list-few (decode w) (p .passes .sound) a, p .passes .sizes .room-most)

@@ -15,8 +15,7 @@ ghost use Rattle.model.specs.Lists.{twos};
 ghost use Rattle.model.specs.Arena.{encode};
 ghost use Rattle.model.specs.Calls.{doLevel};
 ghost use Rattle.model.specs.Passes.{decode};
-ghost use Rattle.arena.specs.Owners.{Listed, Leads};
-ghost use Rattle.insert_remove.specs.Changes.{Leaves};
+ghost use Rattle.arena.specs.Owners.{Listed, Leads, Leaves};
 ghost use Rattle.levelling.specs.Turns.{Full, Passed, Relevelled};
 
 // The number of times 2 divides a rank, at most m, by halving it.

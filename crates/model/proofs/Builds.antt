@@ -8,7 +8,7 @@ use lib.ListN.{length, take, drop, getD, set, take-append-drop, length-drop}
 use lib.Seq.{drop-drop, drop-set-lt, drop-set-add, take-set-le, take-set-lt}
 use native.Mathlib.Nat.{zero-mul, add-zero, zero-add, mul-le-mul-right}
 use native.Mathlib.Omega.{arith}
-use Rattle.model.specs.Arena.{State, nodeWords, headWords, freeWords, recordOf, records, header, encode, listOf}
+use Rattle.model.specs.Arena.{width, State, nodeWords, headWords, freeWords, recordOf, records, header, encode, listOf}
 use Rattle.model.specs.Cells.{recordAt}
 use Rattle.model.specs.Nodes.{Node}
 use Rattle.model.specs.Passes.{times, timesAll, timesFree, Sound, Sizes, Passes}
@@ -51,7 +51,7 @@ in-free s (f ∷ fs) l = elim (same? f s) [
 ]
 
 pub record Reads-as (S : State) (w : List ℕ) : Type 0 where
-  pub size : length w ≡ 8 + (length (S .lists) + S .room) * (4 + 2 * S .levels)
+  pub size : length w ≡ 8 + (length (S .lists) + S .room) * (width (S .levels))
   pub front : take 8 w ≡ header S
   pub heads : (a : ℕ) → a < length (S .lists) → recordAt (S .levels) w a ≡ headWords (S .levels) (listOf S a)
   pub in-a-list : (a : ℕ) (aa : List Node) (y : Node) (ys : List Node) → a < length (S .lists) → listOf S a ≡ aa ++ y ∷ ys → recordAt (S .levels) w (y .slot) ≡ nodeWords (S .levels) y ys
@@ -75,22 +75,22 @@ records-are S v w r s l = elim (test (suc s) (length (S .lists))) [
 
 pub words-are : (S : State) → Sound S → (w : List ℕ) → Reads-as S w → w ≡ encode S
 words-are S v w r =
-    let W = 4 + 2 * S .levels in
+    let W = width (S .levels) in
     sym (take-append-drop 8 w)
     ∙ ap₂ (λ (x y : List ℕ). x ++ y) (r .front)
     (recs-build W (recordOf S) 0 (length (S .lists) + S .room) (drop 8 w) (omega (arith, length-drop 8 w, r .size))
     (λ j k. rw (drop-drop (j * W) 8 w, zero-add j) (records-are S v w r j k)))
 
 -- ---- a store ----
-pub rec-set-same : (M : ℕ) (w : List ℕ) (s c v : ℕ) → c < 4 + 2 * M → recordAt M (set w (8 + s * (4 + 2 * M) + c) v) s ≡ set (recordAt M w s) c v
-rec-set-same M w s c v l = rw (drop-set-add (8 + s * (4 + 2 * M)) w c v, take-set-lt (4 + 2 * M) (drop (8 + s * (4 + 2 * M)) w) c v l) refl
+pub rec-set-same : (M : ℕ) (w : List ℕ) (s c v : ℕ) → c < width M → recordAt M (set w (8 + s * (width M) + c) v) s ≡ set (recordAt M w s) c v
+rec-set-same M w s c v l = rw (drop-set-add (8 + s * (width M)) w c v, take-set-lt (width M) (drop (8 + s * (width M)) w) c v l) refl
 
-pub rec-set-other : (M : ℕ) (w : List ℕ) (s z c v : ℕ) → c < 4 + 2 * M → s ≢ z → recordAt M (set w (8 + s * (4 + 2 * M) + c) v) z ≡ recordAt M w z
+pub rec-set-other : (M : ℕ) (w : List ℕ) (s z c v : ℕ) → c < width M → s ≢ z → recordAt M (set w (8 + s * (width M) + c) v) z ≡ recordAt M w z
 rec-set-other M w s z c v l ne = elim (test (suc s) z) [
-  | hit e p ↦ rw (drop-set-lt (8 + z * (4 + 2 * M)) w (8 + s * (4 + 2 * M) + c) v (omega (arith, mul-le-mul-right (4 + 2 * M) p))) refl
+  | hit e p ↦ rw (drop-set-lt (8 + z * (width M)) w (8 + s * (width M) + c) v (omega (arith, mul-le-mul-right (width M) p))) refl
   | miss e p ↦
       let q : suc z ≤ s = omega arith in
-      let W = 4 + 2 * M in
+      let W = width M in
       let d = 8 + s * W + c - (8 + z * W) in
       let m = mul-le-mul-right W q in
       let f : 8 + s * W + c ≡ 8 + z * W + d = omega arith in

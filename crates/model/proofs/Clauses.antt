@@ -8,7 +8,7 @@ use lib.ListN.{length, take, getD}
 use lib.Seq.{append-snoc}
 use native.Mathlib.Omega.{arith}
 use borrow.Author.Tests.{le-leb, lt-leb}
-use Rattle.model.specs.Arena.{State, headWords, nodeWords, freeWords, firstSlot, firstFree, lastSlot, header, encode, listOf, absent}
+use Rattle.model.specs.Arena.{width, toColumn, farColumn, State, headWords, nodeWords, freeWords, firstSlot, firstFree, lastSlot, header, encode, listOf, absent}
 use Rattle.model.specs.Cells.{recordAt, cellAt}
 use Rattle.model.specs.Links.{target, distance}
 use Rattle.model.specs.Nodes.{Node, node, N, Sorted, Low}
@@ -33,7 +33,7 @@ module _ (w : List ℕ) (c : Clauses w) where
   C = getD w 4 0
 
   -- the columns of a head, a node in a list and a free node
-  head-columns : (a : ℕ) → a < L → (k : ℕ) → k < 4 + 2 * M → cellAt M w a k ≡ getD (headWords M (nodes w a)) k 0
+  head-columns : (a : ℕ) → a < L → (k : ℕ) → k < width M → cellAt M w a k ≡ getD (headWords M (nodes w a)) k 0
   unfolding L M C
   head-columns a l =
       let xs = nodes w a in
@@ -49,7 +49,7 @@ module _ (w : List ℕ) (c : Clauses w) where
       let g = c .head-links a l i k in
       (g .to ∙ sym (says-to M i k .head xs ∙ (rw t refl)), g .far ∙ sym (says-far M i k .head xs ∙ (rw t refl))))
 
-  node-columns : (a : ℕ) (aa : List Node) (y : Node) (ys : List Node) → a < L → nodes w a ≡ aa ++ y ∷ ys → (k : ℕ) → k < 4 + 2 * M → cellAt M w (y .slot) k ≡ getD (nodeWords M y ys) k 0
+  node-columns : (a : ℕ) (aa : List Node) (y : Node) (ys : List Node) → a < L → nodes w a ≡ aa ++ y ∷ ys → (k : ℕ) → k < width M → cellAt M w (y .slot) k ≡ getD (nodeWords M y ys) k 0
   unfolding L M C
   node-columns a aa y ys l e =
       let v = stands L M C w (cellAt M w a 0) (cellAt M w a 2) aa y ys (c .chains a l) (sym (nodes-are w a l) ∙ e) in
@@ -63,7 +63,7 @@ module _ (w : List ℕ) (c : Clauses w) where
             (g .to ∙ sym (says-to M i k .node y ys ∙ (rw t refl)), g .far ∙ sym (says-far M i k .node y ys ∙ (rw t refl)))
       ])
 
-  free-columns : (gs : List ℕ) (f : ℕ) (fs : List ℕ) → decode w .free ≡ gs ++ f ∷ fs → (k : ℕ) → k < 4 + 2 * M → cellAt M w f k ≡ getD (freeWords M fs) k 0
+  free-columns : (gs : List ℕ) (f : ℕ) (fs : List ℕ) → decode w .free ≡ gs ++ f ∷ fs → (k : ℕ) → k < width M → cellAt M w f k ≡ getD (freeWords M fs) k 0
   unfolding L M C
   free-columns gs f fs e =
       let v = stands-free L M C w (getD w 6 0) (getD w 5 0) gs f fs (c .frees) e in
@@ -71,8 +71,8 @@ module _ (w : List ℕ) (c : Clauses w) where
       columns (λ k. cellAt M w f k ≡ getD (freeWords M fs) k 0) M (p .0) (p .1) (v .next) (p .2)
       (λ i k.
       let g = c .free-links gs f fs e i k in
-      let four : 4 + 2 * i ≡ suc (suc (suc (suc (2 * i)))) = omega arith in
-      let five : 5 + 2 * i ≡ suc (suc (suc (suc (suc (2 * i))))) = omega arith in (
+      let four : toColumn i ≡ suc (suc (suc (suc (2 * i)))) = omega arith in
+      let five : farColumn i ≡ suc (suc (suc (suc (suc (2 * i))))) = omega arith in (
         g .to ∙ sym (ap (λ (j : ℕ). getD (freeWords M fs) j 0) four ∙ absent-at M i k .0),
         g .far ∙ sym (ap (λ (j : ℕ). getD (freeWords M fs) j 0) five ∙ absent-at M i k .1),
       ))
@@ -135,21 +135,21 @@ module _ (w : List ℕ) (p : Passes w) where
   unfolding S
   in-lists a l = omega (arith, lists-are w)
 
-  cell-of : (s : ℕ) (R : List ℕ) → recordAt (S .levels) (encode S) s ≡ R → (k : ℕ) → k < 4 + 2 * S .levels → cellAt (S .levels) w s k ≡ getD R k 0
+  cell-of : (s : ℕ) (R : List ℕ) → recordAt (S .levels) (encode S) s ≡ R → (k : ℕ) → k < width (S .levels) → cellAt (S .levels) w s k ≡ getD R k 0
   unfolding S
   cell-of s R e k l =
       cell-record (S .levels) w s k l ∙ ap (λ (x : List ℕ). getD x k 0) (ap (λ (u : List ℕ). recordAt (S .levels) u s) (p .words) ∙ e)
 
-  head-cell : (a : ℕ) → a < getD w 2 0 → (k : ℕ) → k < 4 + 2 * S .levels → cellAt (S .levels) w a k ≡ getD (headWords (S .levels) (nodes w a)) k 0
+  head-cell : (a : ℕ) → a < getD w 2 0 → (k : ℕ) → k < width (S .levels) → cellAt (S .levels) w a k ≡ getD (headWords (S .levels) (nodes w a)) k 0
   unfolding S
   head-cell a l = cell-of a (headWords (S .levels) (nodes w a)) (rec-encode S a (omega (arith, in-lists a l)) ∙ head-words S a (in-lists a l))
 
-  node-cell : (a : ℕ) (aa : List Node) (y : Node) (ys : List Node) → a < getD w 2 0 → nodes w a ≡ aa ++ y ∷ ys → (k : ℕ) → k < 4 + 2 * S .levels
+  node-cell : (a : ℕ) (aa : List Node) (y : Node) (ys : List Node) → a < getD w 2 0 → nodes w a ≡ aa ++ y ∷ ys → (k : ℕ) → k < width (S .levels)
       → cellAt (S .levels) w (y .slot) k ≡ getD (nodeWords (S .levels) y ys) k 0
   unfolding S
   node-cell a aa y ys l e = cell-of (y .slot) (nodeWords (S .levels) y ys) (record-node S (p .sound) a aa y ys (in-lists a l) e)
 
-  free-cell : (gs : List ℕ) (f : ℕ) (fs : List ℕ) → S .free ≡ gs ++ f ∷ fs → (k : ℕ) → k < 4 + 2 * S .levels → cellAt (S .levels) w f k ≡ getD (freeWords (S .levels) fs) k 0
+  free-cell : (gs : List ℕ) (f : ℕ) (fs : List ℕ) → S .free ≡ gs ++ f ∷ fs → (k : ℕ) → k < width (S .levels) → cellAt (S .levels) w f k ≡ getD (freeWords (S .levels) fs) k 0
   unfolding S
   free-cell gs f fs e = cell-of f (freeWords (S .levels) fs) (record-free S (p .sound) gs f fs e)
 
@@ -197,29 +197,29 @@ module _ (w : List ℕ) (p : Passes w) where
     node-zero = λ a aa y ys l e. node-cell a aa y ys l e 3 (omega arith);
     free-form = λ gs f fs e. (free-cell gs f fs e 0 (omega arith), free-cell gs f fs e 1 (omega arith), free-cell gs f fs e 3 (omega arith));
     free-links = λ gs f fs e l k.
-        let four : 4 + 2 * l ≡ suc (suc (suc (suc (2 * l)))) = omega arith in
-        let five : 5 + 2 * l ≡ suc (suc (suc (suc (suc (2 * l))))) = omega arith in
+        let four : toColumn l ≡ suc (suc (suc (suc (2 * l)))) = omega arith in
+        let five : farColumn l ≡ suc (suc (suc (suc (suc (2 * l))))) = omega arith in
         record {
-          to = free-cell gs f fs e (4 + 2 * l) (omega arith) ∙ ap (λ (j : ℕ). getD (freeWords (S .levels) fs) j 0) four ∙ absent-at (S .levels) l k .0;
-          far = free-cell gs f fs e (5 + 2 * l) (omega arith) ∙ ap (λ (j : ℕ). getD (freeWords (S .levels) fs) j 0) five ∙ absent-at (S .levels) l k .1;
+          to = free-cell gs f fs e (toColumn l) (omega arith) ∙ ap (λ (j : ℕ). getD (freeWords (S .levels) fs) j 0) four ∙ absent-at (S .levels) l k .0;
+          far = free-cell gs f fs e (farColumn l) (omega arith) ∙ ap (λ (j : ℕ). getD (freeWords (S .levels) fs) j 0) five ∙ absent-at (S .levels) l k .1;
         };
     head-links = λ a i l k.
         let t : leb (suc l) (S .levels) ≡ true = le-leb (suc l) (S .levels) k in
         record {
-          to = head-cell a i (4 + 2 * l) (omega arith) ∙ says-to (S .levels) l k .head (nodes w a) ∙ (rw t refl);
-          far = head-cell a i (5 + 2 * l) (omega arith) ∙ says-far (S .levels) l k .head (nodes w a) ∙ (rw t refl);
+          to = head-cell a i (toColumn l) (omega arith) ∙ says-to (S .levels) l k .head (nodes w a) ∙ (rw t refl);
+          far = head-cell a i (farColumn l) (omega arith) ∙ says-far (S .levels) l k .head (nodes w a) ∙ (rw t refl);
         };
     node-links = λ a aa y ys i e l k h.
         let t : leb (suc l) (y .height) ≡ true = le-leb (suc l) (y .height) h in
         record {
-          to = node-cell a aa y ys i e (4 + 2 * l) (omega arith) ∙ says-to (S .levels) l k .node y ys ∙ (rw t refl);
-          far = node-cell a aa y ys i e (5 + 2 * l) (omega arith) ∙ says-far (S .levels) l k .node y ys ∙ (rw t refl);
+          to = node-cell a aa y ys i e (toColumn l) (omega arith) ∙ says-to (S .levels) l k .node y ys ∙ (rw t refl);
+          far = node-cell a aa y ys i e (farColumn l) (omega arith) ∙ says-far (S .levels) l k .node y ys ∙ (rw t refl);
         };
     node-absent = λ a aa y ys i e l k h.
         let t : leb (suc l) (y .height) ≡ false = lt-leb (suc l) (y .height) (omega arith) in
         record {
-          to = node-cell a aa y ys i e (4 + 2 * l) (omega arith) ∙ says-to (S .levels) l k .node y ys ∙ (rw t refl);
-          far = node-cell a aa y ys i e (5 + 2 * l) (omega arith) ∙ says-far (S .levels) l k .node y ys ∙ (rw t refl);
+          to = node-cell a aa y ys i e (toColumn l) (omega arith) ∙ says-to (S .levels) l k .node y ys ∙ (rw t refl);
+          far = node-cell a aa y ys i e (farColumn l) (omega arith) ∙ says-far (S .levels) l k .node y ys ∙ (rw t refl);
         };
   }
 

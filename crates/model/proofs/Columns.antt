@@ -7,15 +7,15 @@ use lib.ListN.{length, take, drop, getD, length-drop, length-append}
 use lib.Seq.{getD-take, getD-drop, ext-getD, length-take-le, drop-cons}
 use native.Mathlib.Nat.{mul-le-mul-right, add-zero}
 use native.Mathlib.Omega.{arith}
-use Rattle.model.specs.Arena.{State, firstSlot, firstFree, recordOf, records, encode}
+use Rattle.model.specs.Arena.{width, toColumn, farColumn, State, firstSlot, firstFree, recordOf, records, encode}
 use Rattle.model.specs.Cells.{recordAt, cellAt}
 use Rattle.model.specs.Nodes.{Node, node, N}
 use Rattle.model.specs.Passes.{chain, freeChain, listsFrom, decode, nodes}
 use Rattle.model.proofs.Records.{length-record}
 
-pub cell-record : (M : ℕ) (w : List ℕ) (s c : ℕ) → c < 4 + 2 * M → cellAt M w s c ≡ getD (recordAt M w s) c 0
+pub cell-record : (M : ℕ) (w : List ℕ) (s c : ℕ) → c < width M → cellAt M w s c ≡ getD (recordAt M w s) c 0
 unfolding cellAt
-cell-record M w s c l = sym (getD-take (4 + 2 * M) (drop (8 + s * (4 + 2 * M)) w) c 0 l ∙ getD-drop (8 + s * (4 + 2 * M)) w c 0)
+cell-record M w s c l = sym (getD-take (width M) (drop (8 + s * (width M)) w) c 0 l ∙ getD-drop (8 + s * (width M)) w c 0)
 
 -- ---- a record from its columns ----
 data Half (k : ℕ) : Type 0 where
@@ -26,7 +26,7 @@ half : (k : ℕ) → Half k
 half zero = even 0 refl
 half (suc k) = elim (half k) [ even l e ↦ odd l (omega arith) | odd l e ↦ even (suc l) (omega arith) ]
 
-pub columns : (P : ℕ → Type 0) (M : ℕ) → P 0 → P 1 → P 2 → P 3 → ((l : ℕ) → l < M → P (4 + 2 * l) × P (5 + 2 * l)) → (c : ℕ) → c < 4 + 2 * M → P c
+pub columns : (P : ℕ → Type 0) (M : ℕ) → P 0 → P 1 → P 2 → P 3 → ((l : ℕ) → l < M → P (toColumn l) × P (farColumn l)) → (c : ℕ) → c < width M → P c
 columns P M p q r t h zero l = p
 columns P M p q r t h (suc zero) l = q
 columns P M p q r t h (suc (suc zero)) l = r
@@ -37,10 +37,10 @@ columns P M p q r t h (suc (suc (suc (suc k)))) l = elim (half k) [
 ]
 
 -- a record that lies in the words is R, where each of its columns is
-pub record-is : (M n : ℕ) (w : List ℕ) (s : ℕ) (R : List ℕ) → length w ≡ 8 + n * (4 + 2 * M) → s < n → length R ≡ 4 + 2 * M
-    → ((c : ℕ) → c < 4 + 2 * M → cellAt M w s c ≡ getD R c 0) → recordAt M w s ≡ R
+pub record-is : (M n : ℕ) (w : List ℕ) (s : ℕ) (R : List ℕ) → length w ≡ 8 + n * (width M) → s < n → length R ≡ width M
+    → ((c : ℕ) → c < width M → cellAt M w s c ≡ getD R c 0) → recordAt M w s ≡ R
 record-is M n w s R size l len h =
-    let W = 4 + 2 * M in
+    let W = width M in
     let full = length-take-le W (drop (8 + s * W) w) (omega (arith, length-drop (8 + s * W) w, size, mul-le-mul-right W l)) in
     ext-getD 0 (recordAt M w s) R (full ∙ sym len) (λ c k. let j : c < W = omega (arith, k, full) in sym (cell-record M w s c j) ∙ h c j)
 
@@ -101,5 +101,5 @@ length-records : (W : ℕ) (f : ℕ → List ℕ) → ((s : ℕ) → length (f s
 length-records W f l s zero = omega arith
 length-records W f l s (suc n) = length-append (f s) (records f (suc s) n) ∙ omega (arith, l s, length-records W f l (suc s) n)
 
-pub length-encode : (S : State) → length (encode S) ≡ 8 + (length (S .lists) + S .room) * (4 + 2 * S .levels)
-length-encode S = omega (arith, length-records (4 + 2 * S .levels) (recordOf S) (length-record S) 0 (length (S .lists) + S .room))
+pub length-encode : (S : State) → length (encode S) ≡ 8 + (length (S .lists) + S .room) * (width (S .levels))
+length-encode S = omega (arith, length-records (width (S .levels)) (recordOf S) (length-record S) 0 (length (S .lists) + S .room))

@@ -9,7 +9,7 @@ use lib.ListN.{length, getD}
 use native.Mathlib.Nat.{not-suc-le-zero, add-zero, zero-add}
 use native.Mathlib.Omega.{arith}
 use borrow.Author.Tests.{le-leb}
-use Rattle.model.specs.Arena.{State, nodeLinks, nodeWords, headWords, firstSlot, listOf, slots-of}
+use Rattle.model.specs.Arena.{toColumn, farColumn, State, nodeLinks, nodeWords, headWords, firstSlot, listOf, slots-of}
 use Rattle.model.specs.Links.{further, target, distance}
 use Rattle.model.specs.Nodes.{Node, node, N}
 use Rattle.model.specs.Passes.{timesAll, Sound}
@@ -41,17 +41,17 @@ link-at l₀ (suc n) ht ys (suc l) p =
     let i = link-at (suc l₀) n ht ys l (omega arith) in
     elim (test (suc l₀) ht) [ hit g k ↦ rw (g, e, f) i | miss g k ↦ rw (g, e, f) i ]
 
-pub says-to : (M l : ℕ) → l < M → Says M (4 + 2 * l) (to (suc l))
+pub says-to : (M l : ℕ) → l < M → Says M (toColumn l) (to (suc l))
 says-to M l k =
-    let four : 4 + 2 * l ≡ suc (suc (suc (suc (2 * l)))) = omega arith in
+    let four : toColumn l ≡ suc (suc (suc (suc (2 * l)))) = omega arith in
     record {
       head = λ xs. ap (λ (c : ℕ). getD (headWords M xs) c 0) four ∙ link-at 0 M M xs l k .0 ∙ ap (λ (h : ℕ). to (suc h) M xs) (zero-add l);
       node = λ y ys. ap (λ (c : ℕ). getD (nodeWords M y ys) c 0) four ∙ link-at 0 M (y .height) ys l k .0 ∙ ap (λ (h : ℕ). to (suc h) (y .height) ys) (zero-add l);
     }
 
-pub says-far : (M l : ℕ) → l < M → Says M (5 + 2 * l) (far (suc l))
+pub says-far : (M l : ℕ) → l < M → Says M (farColumn l) (far (suc l))
 says-far M l k =
-    let five : 5 + 2 * l ≡ suc (suc (suc (suc (suc (2 * l))))) = omega arith in
+    let five : farColumn l ≡ suc (suc (suc (suc (suc (2 * l))))) = omega arith in
     record {
       head = λ xs. ap (λ (c : ℕ). getD (headWords M xs) c 0) five ∙ link-at 0 M M xs l k .1 ∙ ap (λ (h : ℕ). far (suc h) M xs) (zero-add l);
       node = λ y ys. ap (λ (c : ℕ). getD (nodeWords M y ys) c 0) five ∙ link-at 0 M (y .height) ys l k .1 ∙ ap (λ (h : ℕ). far (suc h) (y .height) ys) (zero-add l);

@@ -7,7 +7,7 @@ use lib.Seq.{take-at, getD-at, drop-append-add, append-snoc}
 use native.Mathlib.Nat.{zero-add, add-zero, suc-add, add-suc, not-suc-le-zero, zero-mul}
 use native.Mathlib.Omega.{arith}
 use borrow.Author.Tests.{lt-ltb, le-ltb, eq-eqb}
-use Rattle.model.specs.Arena.{State, nodeLinks, nodeWords, headWords, freeWords, absent, firstSlot, firstFree, inList, inLists, inFree, recordOf, records, header, encode}
+use Rattle.model.specs.Arena.{width, State, nodeLinks, nodeWords, headWords, freeWords, absent, firstSlot, firstFree, inList, inLists, inFree, recordOf, records, header, encode}
 use Rattle.model.specs.Cells.{recordAt}
 use Rattle.model.specs.Nodes.{Node}
 use Rattle.model.specs.Passes.{chain, freeChain, listsFrom, decode, times, timesAll, timesFree, Sound}
@@ -25,22 +25,22 @@ pub length-absent : (n : ℕ) → length (absent n) ≡ 2 * n
 length-absent zero = refl
 length-absent (suc n) = omega (arith, length-absent n)
 
-length-inFree : (M s : ℕ) (fs : List ℕ) → length (inFree M s fs) ≡ 4 + 2 * M
+length-inFree : (M s : ℕ) (fs : List ℕ) → length (inFree M s fs) ≡ width M
 length-inFree M s [] = omega (arith, length-absent M)
 length-inFree M s (f ∷ fs) = elim (same? f s) [ same e p ↦ rw e (omega (arith, length-absent M)) | other e p ↦ rw e (length-inFree M s fs) ]
 
-length-inList : (M s : ℕ) (ys : List Node) (o : List ℕ) → length o ≡ 4 + 2 * M → length (inList M s ys o) ≡ 4 + 2 * M
+length-inList : (M s : ℕ) (ys : List Node) (o : List ℕ) → length o ≡ width M → length (inList M s ys o) ≡ width M
 length-inList M s [] o l = l
 length-inList M s (y ∷ ys) o l = elim (same? (y .slot) s) [
   | same e p ↦ rw e (omega (arith, length-links 0 M (y .height) ys))
   | other e p ↦ rw e (length-inList M s ys o l)
 ]
 
-length-inLists : (M s : ℕ) (xss : List (List Node)) (o : List ℕ) → length o ≡ 4 + 2 * M → length (inLists M s xss o) ≡ 4 + 2 * M
+length-inLists : (M s : ℕ) (xss : List (List Node)) (o : List ℕ) → length o ≡ width M → length (inLists M s xss o) ≡ width M
 length-inLists M s [] o l = l
 length-inLists M s (xs ∷ xss) o l = length-inList M s xs (inLists M s xss o) (length-inLists M s xss o l)
 
-pub length-record : (S : State) (s : ℕ) → length (recordOf S s) ≡ 4 + 2 * S .levels
+pub length-record : (S : State) (s : ℕ) → length (recordOf S s) ≡ width (S .levels)
 length-record S s = elim (test (suc s) (length (S .lists))) [
   | hit e p ↦ rw e (omega (arith, length-links 0 (S .levels) (S .levels) (getD (S .lists) s [])))
   | miss e p ↦ rw e (length-inLists (S .levels) s (S .lists) (inFree (S .levels) s (S .free)) (length-inFree (S .levels) s (S .free)))
@@ -59,7 +59,7 @@ head-words S a l = rw (lt-ltb a (length (S .lists)) l) refl
 
 pub rec-encode : (S : State) (s : ℕ) → s < length (S .lists) + S .room → recordAt (S .levels) (encode S) s ≡ recordOf S s
 rec-encode S s l =
-    let W = 4 + 2 * S .levels in
+    let W = width (S .levels) in
     ap (take W) (drop-append-add (header S) (records (recordOf S) 0 (length (S .lists) + S .room)) (s * W))
     ∙ recs-at W (recordOf S) (length-record S) 0 (length (S .lists) + S .room) s l ∙ ap (recordOf S) (zero-add s)
 

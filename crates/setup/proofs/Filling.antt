@@ -10,7 +10,7 @@ use lib.Seq.{getD-drop}
 use native.Mathlib.Nat.{mul-le-mul-right}
 use native.Mathlib.Omega.{arith}
 use Rattle.model.specs.Nodes.{Node}
-use Rattle.model.specs.Arena.{State, recordOf, header, encode, setUp}
+use Rattle.model.specs.Arena.{width, State, recordOf, header, encode, setUp}
 use Rattle.model.specs.Cells.{cellAt, putAt, Cell}
 use Rattle.model.specs.Passes.{Ranges}
 use Rattle.model.specs.Calls.{Room, SetUpPromise}
@@ -23,16 +23,16 @@ use Rattle.setup.specs.Bare.{bareWords, Inside, Written, Filled, HeaderS
 -- the first k words of the record of slot s are R's
 pub record Storing (M : ℕ) (before : List ℕ) (s : ℕ) (R : List ℕ) (k : ℕ) (after : List ℕ) : Type 0 where
   pub size : length after ≡ length before
-  pub here : (c : ℕ) → c < k → c < 4 + 2 * M → cellAt M after s c ≡ getD R c 0
-  pub there : (z c : ℕ) → z ≢ s → c < 4 + 2 * M → cellAt M after z c ≡ cellAt M before z c
+  pub here : (c : ℕ) → c < k → c < width M → cellAt M after s c ≡ getD R c 0
+  pub there : (z c : ℕ) → z ≢ s → c < width M → cellAt M after z c ≡ cellAt M before z c
 
 pub store-none : {M s : ℕ} {R w : List ℕ} → Storing M w s R 0 w
 store-none = record { size = refl; here = λ c l k. absurd (omega arith); there = λ z c ne k. refl }
 
-pub store-cell : {M s k : ℕ} {R w₀ w : List ℕ} → Inside w₀ M s → Storing M w₀ s R k w → k < 4 + 2 * M → Cell w M s k
+pub store-cell : {M s k : ℕ} {R w₀ w : List ℕ} → Inside w₀ M s → Storing M w₀ s R k w → k < width M → Cell w M s k
 store-cell i h l = record { small = i .small; column = l; inside = omega (arith, i .room, h .size) }
 
-pub store-more : {M s k v : ℕ} {R w₀ w u : List ℕ} → Inside w₀ M s → k < 4 + 2 * M → Storing M w₀ s R k w → v ≡ getD R k 0 → u ≡ putAt M w s k v → Storing M w₀ s R (k + 1) u
+pub store-more : {M s k v : ℕ} {R w₀ w u : List ℕ} → Inside w₀ M s → k < width M → Storing M w₀ s R k w → v ≡ getD R k 0 → u ≡ putAt M w s k v → Storing M w₀ s R (k + 1) u
 store-more {M} {s} {k} {v} {R} {w₀} {w} {u} i l h e p = rw p (record {
   size = put-size M w s k v ∙ h .size;
   here = λ c q m. elim (same? c k) [
@@ -42,15 +42,15 @@ store-more {M} {s} {k} {v} {R} {w₀} {w} {u} i l h e p = rw p (record {
   there = λ z c ne m. cell-other M w s k v z c l m (λ x y. ne (sym x)) ∙ h .there z c ne m;
 })
 
-pub store-all : {M s k : ℕ} {R w₀ w : List ℕ} → 4 + 2 * M ≤ k → Storing M w₀ s R k w → Written M w₀ s R w
+pub store-all : {M s k : ℕ} {R w₀ w : List ℕ} → width M ≤ k → Storing M w₀ s R k w → Written M w₀ s R w
 store-all l h = record { size = h .size; here = λ c q. h .here c (omega arith) q; there = h .there }
 
 -- ---- records ----
 pub fill-none : {L M n : ℕ} {w : List ℕ} → Filled L M n w 0 w
 fill-none = record { size = refl; records = λ s c l k. absurd (omega arith) }
 
-pub fill-inside : {L M n s k : ℕ} {w₀ w : List ℕ} → M ≤ 16 → k ≡ M → length w₀ ≡ 8 + n * (4 + 2 * M) → s < n → Filled L M n w₀ s w → Inside w k s
-fill-inside {L} {M} {n} {s} {k} {w₀} {w} m q e l h = rw q (record { small = m; room = omega (arith, h .size, mul-le-mul-right (4 + 2 * M) l) })
+pub fill-inside : {L M n s k : ℕ} {w₀ w : List ℕ} → M ≤ 16 → k ≡ M → length w₀ ≡ 8 + n * (width M) → s < n → Filled L M n w₀ s w → Inside w k s
+fill-inside {L} {M} {n} {s} {k} {w₀} {w} m q e l h = rw q (record { small = m; room = omega (arith, h .size, mul-le-mul-right (width M) l) })
 
 pub fill-more : {L M n s k a b e d : ℕ} {w₀ w u : List ℕ} → k ≡ M → Filled L M n w₀ s w → bareWords M a b e d ≡ recordOf (setUp L M (n - L)) s
     → Written k w s (bareWords k a b e d) u → Filled L M n w₀ (s + 1) u
@@ -71,8 +71,8 @@ fill-all {L} {M} {n} {s} {w₀} {w} l k h = let e : s ≡ n = omega arith in rw 
 behind : (M : ℕ) (u w : List ℕ) → drop 8 u ≡ drop 8 w → (s c : ℕ) → cellAt M u s c ≡ cellAt M w s c
 unfolding cellAt
 behind M u w e s c =
-    let k = s * (4 + 2 * M) + c in
-    let q : 8 + s * (4 + 2 * M) + c ≡ 8 + k = omega arith in
+    let k = s * (width M) + c in
+    let q : 8 + s * (width M) + c ≡ 8 + k = omega arith in
     rw q (sym (getD-drop 8 u k 0) ∙ ap (λ (x : List ℕ). getD x k 0) e ∙ getD-drop 8 w k 0)
 
 pub new-arena : {L M C : ℕ} {w₀ w u : List ℕ} → Room L M C (length w₀) → Filled L M (L + C) w₀ (L + C) w → HeaderSet w (header (setUp L M C)) u → u ≡ encode (setUp L M C)

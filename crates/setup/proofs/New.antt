@@ -8,7 +8,7 @@ use lib.ListN.{length, getD, set, replicate, length-replicate}
 use native.Mathlib.Omega.{arith}
 use borrow.Author.Tests.{lt-ltb, le-ltb, eq-eqb, ne-eqb}
 use Rattle.model.specs.Nodes.{Node, N}
-use Rattle.model.specs.Arena.{State, nodeLinks, absent, firstFree, freeWords, inLists, inFree, recordOf, upFrom, setUp, mark, version, header}
+use Rattle.model.specs.Arena.{width, State, nodeLinks, absent, firstFree, freeWords, inLists, inFree, recordOf, upFrom, setUp, mark, version, header}
 use Rattle.model.proofs.Tests.{Test, hit, miss, test, Same, same, other, same?}
 use Rattle.setup.specs.Bare.{bareWords, bareWord, HeaderSet}
 
@@ -21,7 +21,7 @@ absent-at (suc M) (suc (suc j)) l =
     rw e (absent-at M j (omega arith))
 
 -- the word in column c of a record without links
-pub bare-at : (M c a b e d : ℕ) → c < 4 + 2 * M → getD (bareWords M a b e d) c 0 ≡ bareWord c a b e d
+pub bare-at : (M c a b e d : ℕ) → c < width M → getD (bareWords M a b e d) c 0 ≡ bareWord c a b e d
 bare-at M zero a b e d l = refl
 bare-at M (suc zero) a b e d l = refl
 bare-at M (suc (suc zero)) a b e d l = refl

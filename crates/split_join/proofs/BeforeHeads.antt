@@ -8,7 +8,7 @@ use lib.Seq.{length-take-le}
 use native.Mathlib.Omega.{arith}
 use borrow.Author.Tests.{le-leb}
 use Rattle.arena.specs.declared.Path.{Path}
-use Rattle.model.specs.Arena.{State, recordOf, encode, slots-of}
+use Rattle.model.specs.Arena.{width, State, recordOf, encode, slots-of}
 use Rattle.model.specs.Cells.{Cell, cellAt, putAt}
 use Rattle.model.specs.Links.{target}
 use Rattle.model.specs.Nodes.{Node, N, slotAt}
@@ -92,7 +92,7 @@ module _ {w₀ : List ℕ} {m a b : ℕ} (p : Joins w₀ m b a) where
   col-1 : {u : List ℕ} → Done 2 u → Done 1 u
   col-1 {u} h = record {
     front = h .front;
-    mixed = skip-down m (slots-of S) (recordOf T) (recordOf S) u 1 2 (4 + 2 * m) (omega arith) refl (omega arith)
+    mixed = skip-down m (slots-of S) (recordOf T) (recordOf S) u 1 2 (width m) (omega arith) refl (omega arith)
         (λ i l. elim (same? i a) [ same x q ↦ rw (q, head-a p, head-words S a (p .from .list)) refl | other x q ↦ stays-1 p i l q ]) (h .mixed);
   }
 

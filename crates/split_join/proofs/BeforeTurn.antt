@@ -10,7 +10,7 @@ use native.Mathlib.Omega.{arith}
 use Rattle.arena.specs.declared.Path.{Path}
 use Rattle.arena.specs.Mixed.{Mix}
 use Rattle.arena.specs.Owners.{Leads}
-use Rattle.model.specs.Arena.{State, recordOf, slots-of}
+use Rattle.model.specs.Arena.{width, toColumn, farColumn, State, recordOf, slots-of}
 use Rattle.model.specs.Cells.{Cell, cellAt}
 use Rattle.model.specs.Links.{distance}
 use Rattle.model.specs.Nodes.{N}
@@ -74,7 +74,7 @@ module _ {w₀ : List ℕ} {m a b n : ℕ} {path : Path} {l : ℕ} {w : List ℕ
   ne : a ≢ b
   ne e = p .apart (sym e)
 
-  three : {lo hi : ℕ} (u : List ℕ) → Mix m (slots-of S) (recordOf T) (recordOf S) lo hi u → (c : ℕ) → c < 4 + 2 * m → at-three u c
+  three : {lo hi : ℕ} (u : List ℕ) → Mix m (slots-of S) (recordOf T) (recordOf S) lo hi u → (c : ℕ) → c < width m → at-three u c
   three u x c j = (there m (slots-of S) (small p) u x s c (st .known) j, there m (slots-of S) (small p) u x a c (b-in p) j, there m (slots-of S) (small p) u x b c bn j)
 
   pub level-small : l < 16
@@ -84,35 +84,35 @@ module _ {w₀ : List ℕ} {m a b n : ℕ} {path : Path} {l : ℕ} {w : List ℕ
   rank-le = omega (arith, st .within, z .count)
 
   pub link-now : LinkIn w m a l
-  link-now = record { small = small p; level = k; inside = three w (z .links .mixed) (5 + 2 * l) (omega arith) .1 .inside }
+  link-now = record { small = small p; level = k; inside = three w (z .links .mixed) (farColumn l) (omega arith) .1 .inside }
 
-  pub cells-to : at-three w (4 + 2 * l)
-  cells-to = three w (z .links .mixed) (4 + 2 * l) (omega arith)
+  pub cells-to : at-three w (toColumn l)
+  cells-to = three w (z .links .mixed) (toColumn l) (omega arith)
 
-  pub fits : {f : ℕ} → f ≡ cellAt m w a (5 + 2 * l) → f + (n - r) < 4294967296
+  pub fits : {f : ℕ} → f ≡ cellAt m w a (farColumn l) → f + (n - r) < 4294967296
   fits ef = hung-fits (p .from) (z .links) k ef n r (omega (arith, few p .0, z .count)) (few p .1)
 
-  module _ {t : ℕ} (et : t ≡ cellAt m w a (4 + 2 * l)) {u : List ℕ} (eu : u ≡ shifted m w (4 + 2 * l) s t a b N) where
-    to-stored : Stored m (slots-of S) (recordOf T) (4 + 2 * l) w u
+  module _ {t : ℕ} (et : t ≡ cellAt m w a (toColumn l)) {u : List ℕ} (eu : u ≡ shifted m w (toColumn l) s t a b N) where
+    to-stored : Stored m (slots-of S) (recordOf T) (toColumn l) w u
     to-stored = rw eu (
-        shift-stored (shifts-to p st lm (4 + 2 * l) (says-to (S .levels) l lm) (to-is (p .from) (z .links) k et)) (st .known) (b-in p) bn ne m w (z .links .mixed .size) (omega arith)
-        (λ i x. z .links .mixed .above i (4 + 2 * l) x (omega arith) (omega arith))
+        shift-stored (shifts-to p st lm (toColumn l) (says-to (S .levels) l lm) (to-is (p .from) (z .links) k et)) (st .known) (b-in p) bn ne m w (z .links .mixed .size) (omega arith)
+        (λ i x. z .links .mixed .above i (toColumn l) x (omega arith) (omega arith))
         )
 
-    to-mixed : Mix m (slots-of S) (recordOf T) (recordOf S) 4 (5 + 2 * l) u
+    to-mixed : Mix m (slots-of S) (recordOf T) (recordOf S) 4 (farColumn l) u
     to-mixed = mix-up to-stored (omega arith) refl (omega arith) (z .links .mixed)
 
-    pub cells-far : at-three u (5 + 2 * l)
-    cells-far = three u to-mixed (5 + 2 * l) (omega arith)
+    pub cells-far : at-three u (farColumn l)
+    cells-far = three u to-mixed (farColumn l) (omega arith)
 
-    module _ {f d : ℕ} (ef : f ≡ cellAt m w a (5 + 2 * l)) (ed : d ≡ cond (eqb f 0) 0 (f + (n - r))) {x : List ℕ} (ex : x ≡ shifted m u (5 + 2 * l) s d a b 0) where
+    module _ {f d : ℕ} (ef : f ≡ cellAt m w a (farColumn l)) (ed : d ≡ cond (eqb f 0) 0 (f + (n - r))) {x : List ℕ} (ex : x ≡ shifted m u (farColumn l) s d a b 0) where
       d-is : d ≡ past (length (nodes w₀ b) - r) (distance (suc l) (nodes w₀ a))
       d-is = hung-far (p .from) (z .links) k ef n r ed ∙ ap (λ (i : ℕ). past (i - r) (distance (suc l) (nodes w₀ a))) (z .count)
 
-      far-stored : Stored m (slots-of S) (recordOf T) (5 + 2 * l) u x
+      far-stored : Stored m (slots-of S) (recordOf T) (farColumn l) u x
       far-stored = rw ex (
-          shift-stored (shifts-far p st lm (5 + 2 * l) (says-far (S .levels) l lm) d-is) (st .known) (b-in p) bn ne m u (to-mixed .size) (omega arith)
-          (λ i x. to-mixed .above i (5 + 2 * l) x (omega arith) (omega arith))
+          shift-stored (shifts-far p st lm (farColumn l) (says-far (S .levels) l lm) d-is) (st .known) (b-in p) bn ne m u (to-mixed .size) (omega arith)
+          (λ i x. to-mixed .above i (farColumn l) x (omega arith) (omega arith))
           )
 
       pub turn : Turning w₀ m a b n path (l + 1) x

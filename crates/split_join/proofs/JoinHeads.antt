@@ -7,7 +7,7 @@ use lib.Seq.{length-take-le}
 use native.Mathlib.Omega.{arith}
 use borrow.Author.Tests.{le-leb}
 use Rattle.arena.specs.declared.Path.{Path}
-use Rattle.model.specs.Arena.{State, lastSlot, headWords, recordOf, encode, slots-of}
+use Rattle.model.specs.Arena.{width, State, lastSlot, headWords, recordOf, encode, slots-of}
 use Rattle.model.specs.Calls.{doJoin}
 use Rattle.model.specs.Cells.{Cell, cellAt, putAt}
 use Rattle.model.specs.Links.{target}
@@ -90,7 +90,7 @@ module _ {w₀ : List ℕ} {m a b : ℕ} (p : Joins w₀ m a b) where
   col-1 : {u : List ℕ} → Done 2 u → Done 1 u
   col-1 {u} h = record {
     front = h .front;
-    mixed = skip-down m (slots-of S) (recordOf T) (recordOf S) u 1 2 (4 + 2 * m) (omega arith) refl (omega arith)
+    mixed = skip-down m (slots-of S) (recordOf T) (recordOf S) u 1 2 (width m) (omega arith) refl (omega arith)
         (λ s l. elim (same? s b) [ same x q ↦ rw (q, b-T (like p), b-S (like p)) refl | other x q ↦ same-1 (H p) s l q ]) (h .mixed);
   }
 

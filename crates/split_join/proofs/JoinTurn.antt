@@ -10,7 +10,7 @@ use native.Mathlib.Omega.{arith}
 use borrow.Author.Tests.{le-leb}
 use Rattle.arena.specs.declared.Path.{Path}
 use Rattle.arena.specs.Owners.{Leads}
-use Rattle.model.specs.Arena.{State, listOf, recordOf, slots-of}
+use Rattle.model.specs.Arena.{toColumn, farColumn, State, listOf, recordOf, slots-of}
 use Rattle.model.specs.Calls.{doJoin}
 use Rattle.model.specs.Cells.{Cell, cellAt}
 use Rattle.model.specs.Links.{distance}
@@ -133,7 +133,7 @@ module _ {w₀ : List ℕ} {m a b n : ℕ} {path : Path} {l : ℕ} {w : List ℕ
   pub links-now : LinkIn w m s l × LinkIn w m b l
   links-now = links-in (H p) (b-in p) (p .onto .levels) (small p) (z .links) k st
 
-  module _ (t f : ℕ) (et : t ≡ cellAt m w b (4 + 2 * l)) (ef : f ≡ cellAt m w b (5 + 2 * l)) where
+  module _ (t f : ℕ) (et : t ≡ cellAt m w b (toColumn l)) (ef : f ≡ cellAt m w b (farColumn l)) where
     pub fits : f + (n - r) < 4294967296
     fits = hung-fits (p .from) (z .links) k ef n r (omega (arith, few p .0, z .count)) (few p .1)
 
@@ -141,11 +141,11 @@ module _ {w₀ : List ℕ} {m a b n : ℕ} {path : Path} {l : ℕ} {w : List ℕ
       d-is : d ≡ past (length (nodes w₀ a) - r) (distance (suc l) (nodes w₀ b))
       d-is = hung-far (p .from) (z .links) k ef n r ed ∙ ap (λ (x : ℕ). past (x - r) (distance (suc l) (nodes w₀ b))) (z .count)
 
-      b-to : getD (recordOf (doJoin (decode w₀) a b) b) (4 + 2 * l) 0 ≡ N
-      b-to = ap (λ (R : List ℕ). getD R (4 + 2 * l) 0) (b-S (like p)) ∙ says-to M l lm .head [] ∙ (rw (le-leb (suc l) M lm) refl)
+      b-to : getD (recordOf (doJoin (decode w₀) a b) b) (toColumn l) 0 ≡ N
+      b-to = ap (λ (R : List ℕ). getD R (toColumn l) 0) (b-S (like p)) ∙ says-to M l lm .head [] ∙ (rw (le-leb (suc l) M lm) refl)
 
-      b-far : getD (recordOf (doJoin (decode w₀) a b) b) (5 + 2 * l) 0 ≡ 0
-      b-far = ap (λ (R : List ℕ). getD R (5 + 2 * l) 0) (b-S (like p)) ∙ says-far M l lm .head [] ∙ (rw (le-leb (suc l) M lm) refl)
+      b-far : getD (recordOf (doJoin (decode w₀) a b) b) (farColumn l) 0 ≡ 0
+      b-far = ap (λ (R : List ℕ). getD R (farColumn l) 0) (b-S (like p)) ∙ says-far M l lm .head [] ∙ (rw (le-leb (suc l) M lm) refl)
 
       pub turn : {x : List ℕ} → x ≡ fourPuts m w l s t d b N 0 → Turning w₀ m a b n path (l + 1) x
       turn {x} ex = record {

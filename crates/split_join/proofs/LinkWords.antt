@@ -10,7 +10,7 @@ use lib.ListN.{length, getD}
 use native.Mathlib.Omega.{arith}
 use borrow.Author.Tests.{le-leb}
 use Rattle.arena.specs.Owners.{Listed}
-use Rattle.model.specs.Arena.{State, recordOf, slots-of, headWords}
+use Rattle.model.specs.Arena.{width, toColumn, farColumn, State, recordOf, slots-of, headWords}
 use Rattle.model.specs.Cells.{putAt, cellAt}
 use Rattle.model.specs.Links.{target, distance, further}
 use Rattle.model.specs.Nodes.{Node}
@@ -26,7 +26,7 @@ use Rattle.spans.proofs.Distances.{farther-is}
 
 -- the words with level l of slots x and y stored
 abbrev pub fourPuts : ℕ → List ℕ → ℕ → ℕ → ℕ → ℕ → ℕ → ℕ → ℕ → List ℕ
-fourPuts m w l x tx dx y ty dy = putAt m (putAt m (putAt m (putAt m w x (4 + 2 * l) tx) y (4 + 2 * l) ty) x (5 + 2 * l) dx) y (5 + 2 * l) dy
+fourPuts m w l x tx dx y ty dy = putAt m (putAt m (putAt m (putAt m w x (toColumn l) tx) y (toColumn l) ty) x (farColumn l) dx) y (farColumn l) dy
 
 pub four-puts : (m x y c d p q r s : ℕ) (w u v : List ℕ) → u ≡ putAt m (putAt m w x c p) y c q → v ≡ putAt m (putAt m u x d r) y d s
     → v ≡ putAt m (putAt m (putAt m (putAt m w x c p) y c q) x d r) y d s
@@ -36,14 +36,14 @@ module _ {S T : State} {a o : ℕ} {A X Y : List Node} (H : Hung S T a o A X Y) 
     {fr : List ℕ} {l : ℕ} {w : List ℕ} (g : Relinked S T fr m l w) (k : l < m) {s r : ℕ} (st : Stage H (suc l) s r) where
   pub links-in : LinkIn w m s l × LinkIn w m o l
   links-in = (
-    record { small = sm; level = k; inside = cell-at H on em sm g k st (5 + 2 * l) (omega arith) .inside },
-    record { small = sm; level = k; inside = cell-o H on em sm g k st (5 + 2 * l) (omega arith) .inside },
+    record { small = sm; level = k; inside = cell-at H on em sm g k st (farColumn l) (omega arith) .inside },
+    record { small = sm; level = k; inside = cell-o H on em sm g k st (farColumn l) (omega arith) .inside },
   )
 
   pub turned-both : s ≢ o → (tp dp t d : ℕ) → tp ≡ target (suc l) Y → dp ≡ past (length A - r) (distance (suc l) Y)
-      → getD (recordOf T o) (4 + 2 * l) 0 ≡ t → getD (recordOf T o) (5 + 2 * l) 0 ≡ d
+      → getD (recordOf T o) (toColumn l) 0 ≡ t → getD (recordOf T o) (farColumn l) 0 ≡ d
       → (x : List ℕ) → x ≡ fourPuts m w l s tp dp o t d → Relinked S T fr m (l + 1) x
-  turned-both ne tp dp t d e₁ e₂ e₃ e₄ x ex = turned H on em sm g k st ne tp dp t d e₁ e₂ e₃ e₄ (putAt m (putAt m w s (4 + 2 * l) tp) o (4 + 2 * l) t) refl x ex
+  turned-both ne tp dp t d e₁ e₂ e₃ e₄ x ex = turned H on em sm g k st ne tp dp t d e₁ e₂ e₃ e₄ (putAt m (putAt m w s (toColumn l) tp) o (toColumn l) t) refl x ex
 
 -- ---- list b, of which level l is as it was, is hung behind n nodes of another list ----
 distance-le : (h : ℕ) (ys : List Node) → distance h ys ≤ length ys
@@ -64,16 +64,16 @@ module _ {w₀ : List ℕ} {m b : ℕ} (p : Listed w₀ m b) {T : State} {fr : L
   lm : l < M
   lm = omega (arith, p .levels)
 
-  old : (c : ℕ) → 4 + 2 * l ≤ c → c < 4 + 2 * m → cellAt m w b c ≡ getD (headWords M B) c 0
+  old : (c : ℕ) → toColumn l ≤ c → c < width m → cellAt m w b c ≡ getD (headWords M B) c 0
   old c x y = g .mixed .above b c (omega (arith, p .list)) y x ∙ ap (λ (R : List ℕ). getD R c 0) (head-words (decode w₀) b (p .list))
 
-  pub to-is : {t : ℕ} → t ≡ cellAt m w b (4 + 2 * l) → t ≡ target (suc l) B
-  to-is e = e ∙ old (4 + 2 * l) (omega arith) (omega arith) ∙ says-to M l lm .head B ∙ (rw (le-leb (suc l) M lm) refl)
+  pub to-is : {t : ℕ} → t ≡ cellAt m w b (toColumn l) → t ≡ target (suc l) B
+  to-is e = e ∙ old (toColumn l) (omega arith) (omega arith) ∙ says-to M l lm .head B ∙ (rw (le-leb (suc l) M lm) refl)
 
-  far-is : {f : ℕ} → f ≡ cellAt m w b (5 + 2 * l) → f ≡ distance (suc l) B
-  far-is e = e ∙ old (5 + 2 * l) (omega arith) (omega arith) ∙ says-far M l lm .head B ∙ (rw (le-leb (suc l) M lm) refl)
+  far-is : {f : ℕ} → f ≡ cellAt m w b (farColumn l) → f ≡ distance (suc l) B
+  far-is e = e ∙ old (farColumn l) (omega arith) (omega arith) ∙ says-far M l lm .head B ∙ (rw (le-leb (suc l) M lm) refl)
 
-  module _ {f : ℕ} (ef : f ≡ cellAt m w b (5 + 2 * l)) (n r : ℕ) where
+  module _ {f : ℕ} (ef : f ≡ cellAt m w b (farColumn l)) (n r : ℕ) where
     pub hung-fits : n ≤ 65535 → length B ≤ 65535 → f + (n - r) < 4294967296
     hung-fits x y = omega (arith, far-is ef, distance-le (suc l) B)
 

@@ -5,7 +5,7 @@ use mathlib.Core.Path.{_≡_, sym, ap, _∙_}
 use mathlib.Core.Logic.{_≢_}
 use mathlib.Core.List.{List}
 use lib.ListN.{length, getD}
-use Rattle.model.specs.Arena.{State, recordOf, slots-of}
+use Rattle.model.specs.Arena.{width, State, recordOf, slots-of}
 use Rattle.model.specs.Cells.{cellAt, putAt}
 use Rattle.split_join.specs.Cuts.{shifted}
 use Rattle.arena.proofs.Cells.{cell-same, cell-other, put-size, put-front, in-words, Stored, two-stored}
@@ -24,7 +24,7 @@ pub record Shifts (S T : State) (s a b c v z : ℕ) : Type 0 where
   pub gone : getD (recordOf T b) c 0 ≡ z
 
 module _ {S T : State} {s a b c v z : ℕ} (x : Shifts S T s a b c v z) (sn : s < slots-of S) (an : a < slots-of S) (bn : b < slots-of S) (ne : a ≢ b)
-    (m : ℕ) (w : List ℕ) (size : length w ≡ 8 + slots-of S * (4 + 2 * m)) (k : c < 4 + 2 * m)
+    (m : ℕ) (w : List ℕ) (size : length w ≡ 8 + slots-of S * (width m)) (k : c < width m)
     (old : (i : ℕ) → i < slots-of S → cellAt m w i c ≡ getD (recordOf S i) c 0) where
   abbrev u : List ℕ
   u = putAt m w s c v

@@ -7,7 +7,7 @@ use lib.Dec.{eqb}
 use lib.ListN.{length, take, drop, getD, length-drop, drop-of-length-le}
 use native.Mathlib.Omega.{arith}
 use borrow.Author.Tests.{le-leb}
-use Rattle.model.specs.Arena.{State, lastSlot, headWords, recordOf, encode, slots-of}
+use Rattle.model.specs.Arena.{width, State, lastSlot, headWords, recordOf, encode, slots-of}
 use Rattle.model.specs.Calls.{doSplit}
 use Rattle.model.specs.Cells.{Cell, cellAt, putAt}
 use Rattle.model.specs.Nodes.{Node, N, slotAt}
@@ -96,7 +96,7 @@ module _ {w₀ : List ℕ} {m a b i : ℕ} (p : Splits w₀ m a b i) where
   col-1 : {u : List ℕ} → Done 2 u → Done 1 u
   col-1 {u} h = record {
     front = h .front;
-    mixed = skip-down m (slots-of S) (recordOf T) (recordOf S) u 1 2 (4 + 2 * m) (omega arith) refl (omega arith)
+    mixed = skip-down m (slots-of S) (recordOf T) (recordOf S) u 1 2 (width m) (omega arith) refl (omega arith)
         (λ s l. elim (same? s b) [ same x q ↦ rw (q, b-T (like p), b-S (like p)) refl | other x q ↦ same-1 (H p) s l q ]) (h .mixed);
   }
 

@@ -8,7 +8,7 @@ use native.Mathlib.Omega.{arith}
 use borrow.Author.Tests.{le-leb}
 use Rattle.arena.specs.declared.Path.{Path}
 use Rattle.arena.specs.Owners.{Leads}
-use Rattle.model.specs.Arena.{State, recordOf, slots-of}
+use Rattle.model.specs.Arena.{toColumn, farColumn, State, recordOf, slots-of}
 use Rattle.model.specs.Calls.{doSplit}
 use Rattle.model.specs.Cells.{cellAt}
 use Rattle.model.specs.Links.{distance}
@@ -88,21 +88,21 @@ module _ {w₀ : List ℕ} {m a b i : ℕ} {path : Path} {l : ℕ} {w : List ℕ
   pub links-now : LinkIn w m s l × LinkIn w m b l
   links-now = links-in (H p) (b-in p) (p .from .levels) (small p) (z .links) k st
 
-  module _ (t f d : ℕ) (et : t ≡ cellAt m w s (4 + 2 * l)) (ef : f ≡ cellAt m w s (5 + 2 * l)) (ed : d ≡ f - (i - r)) where
+  module _ (t f d : ℕ) (et : t ≡ cellAt m w s (toColumn l)) (ef : f ≡ cellAt m w s (farColumn l)) (ed : d ≡ f - (i - r)) where
     abbrev B : List Node
     B = drop i (nodes w₀ a)
 
-    b-to : getD (recordOf (doSplit (decode w₀) a b i) b) (4 + 2 * l) 0 ≡ t
+    b-to : getD (recordOf (doSplit (decode w₀) a b i) b) (toColumn l) 0 ≡ t
     b-to =
-        ap (λ (R : List ℕ). getD R (4 + 2 * l) 0) (b-T (like p)) ∙ says-to (decode w₀ .levels) l lm .head B ∙ (rw (le-leb (suc l) (decode w₀ .levels) lm) refl)
+        ap (λ (R : List ℕ). getD R (toColumn l) 0) (b-T (like p)) ∙ says-to (decode w₀ .levels) l lm .head B ∙ (rw (le-leb (suc l) (decode w₀ .levels) lm) refl)
         ∙ sym (et ∙ old-to-is (H p) (b-in p) (p .from .levels) (small p) (z .links) k st)
 
-    b-far : getD (recordOf (doSplit (decode w₀) a b i) b) (5 + 2 * l) 0 ≡ d
+    b-far : getD (recordOf (doSplit (decode w₀) a b i) b) (farColumn l) 0 ≡ d
     b-far =
         let n : length (take i (nodes w₀ a)) - r ≡ i - r = omega (arith, length-A p) in
         let far-is : f ≡ past (i - r) (distance (suc l) B)
         = ef ∙ old-far-is (H p) (b-in p) (p .from .levels) (small p) (z .links) k st ∙ ap (λ (x : ℕ). past x (distance (suc l) B)) n in
-        ap (λ (R : List ℕ). getD R (5 + 2 * l) 0) (b-T (like p)) ∙ says-far (decode w₀ .levels) l lm .head B ∙ (rw (le-leb (suc l) (decode w₀ .levels) lm) refl)
+        ap (λ (R : List ℕ). getD R (farColumn l) 0) (b-T (like p)) ∙ says-far (decode w₀ .levels) l lm .head B ∙ (rw (le-leb (suc l) (decode w₀ .levels) lm) refl)
         ∙ sym (ed ∙ ap (λ (x : ℕ). x - (i - r)) far-is ∙ un-past (i - r) (distance (suc l) B))
 
     pub turn : {x : List ℕ} → x ≡ fourPuts m w l s N 0 b t d → Turning w₀ m a b i path (l + 1) x

@@ -5,8 +5,8 @@ use mathlib.Core.Logic.{_≢_}
 use mathlib.Core.List.{List, [], _++_}
 use lib.ListN.{length}
 use Rattle.model.specs.Nodes.{Sorted}
-use Rattle.model.specs.Arena.{State, listOf, putList}
-use Rattle.model.specs.Cells.{cellAt, putAt}
+use Rattle.model.specs.Arena.{farColumn, State, listOf, putList}
+use Rattle.model.specs.Cells.{place, cellAt, putAt}
 use Rattle.model.specs.Passes.{nodes}
 use Rattle.model.specs.Arena.{farColumn}
 use Rattle.model.specs.Cells.{place}

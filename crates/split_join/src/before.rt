@@ -1,7 +1,13 @@
 // Module 7 of document 01, a worker: the nodes of one list put before those of another, which is an append whose second list comes first.
 use crate::link_at;
+use arena::COUNT;
+use arena::FAR;
+use arena::LAST;
+use arena::LINK;
+use arena::NEXT;
 use arena::Path;
 use arena::Slot;
+use arena::TO;
 use arena::cell;
 use arena::put;
 use arena::put2;
@@ -31,21 +37,21 @@ pub fn join_before(w: &mut [u32], m: usize, a: Slot, b: Slot, path: Path)
     requires { ⌜ Leads (now w) m (b .0) (length (nodes (now w) (b .0))) path ⌝ }
     ensures { λ _. ⌜ now (w .exit) ≡ encode (doBefore (decode (now (w .entry))) (a .0) (b .0)) ⌝ }
 {
-    let n = cell(w, m, b, 0);
+    let n = cell(w, m, b, COUNT);
     let mut l = 0;
     while l < m {
         let s = Slot(path.slots[l]);
         let back = n - path.ranks[l];
         let old = link_at(w, m, a, l);
         let far = farther(old.distance, back);
-        shift(w, m, 4 + 2 * l, s, old.target, a, b, Slot::NONE.0);
-        shift(w, m, 5 + 2 * l, s, far, a, b, 0);
+        shift(w, m, TO + LINK * l, s, old.target, a, b, Slot::NONE.0);
+        shift(w, m, FAR + LINK * l, s, far, a, b, 0);
         l += 1;
     }
     let end = path.end;
-    let more = cell(w, m, a, 0);
-    let first = cell(w, m, a, 2);
-    put(w, m, b, 3, Slot::NONE.0);
-    shift(w, m, 2, end, first, a, b, Slot::NONE.0);
-    put2(w, m, 0, a, n + more, b, 0);
+    let more = cell(w, m, a, COUNT);
+    let first = cell(w, m, a, NEXT);
+    put(w, m, b, LAST, Slot::NONE.0);
+    shift(w, m, NEXT, end, first, a, b, Slot::NONE.0);
+    put2(w, m, COUNT, a, n + more, b, 0);
 }

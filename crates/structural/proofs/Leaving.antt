@@ -7,7 +7,7 @@ use native.Mathlib.Omega.{arith}
 use Rattle.model.specs.Arena.{State, encode}
 use Rattle.model.specs.Passes.{decode, Sound, Passes}
 use Rattle.arena.specs.Owners.{Listed}
-use Rattle.arena.proofs.Places.{length-encode}
+use Rattle.model.proofs.Columns.{length-encode}
 use Rattle.model.proofs.Builds.{passes-encode}
 use Rattle.model.proofs.EveryCall.{Alike, alike-sizes}
 use Rattle.model.proofs.Records.{decode-encode}

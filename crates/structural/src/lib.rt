@@ -1,5 +1,9 @@
 // Module 7 of document 01 (the crate's `structural.rs`): truncate, split and append, on an arena that passes.
+use arena::HEIGHT;
 use arena::Index;
+use arena::KEY;
+use arena::LAST;
+use arena::NEXT;
 use arena::Slot;
 use arena::cell;
 use insert_remove::insert;
@@ -25,24 +29,24 @@ fn first_key(w: &[u32], m: usize, list: Slot) -> u32
     requires { ⌜ Listed (now w) m (list .0) × (0 < length (nodes (now w) (list .0))) ⌝ }
     ensures { λ r. ⌜ r ≡ keyAt (nodes (now (w .entry)) (list .0)) 0 ⌝ }
 {
-    let first = Slot(cell(w, m, list, 2));
-    cell(w, m, first, 0)
+    let first = Slot(cell(w, m, list, NEXT));
+    cell(w, m, first, KEY)
 }
 
 fn first_height(w: &[u32], m: usize, list: Slot) -> u32
     requires { ⌜ Listed (now w) m (list .0) × (0 < length (nodes (now w) (list .0))) ⌝ }
     ensures { λ r. ⌜ r ≡ at (nodes (now (w .entry)) (list .0)) 0 .height ⌝ }
 {
-    let first = Slot(cell(w, m, list, 2));
-    cell(w, m, first, 1)
+    let first = Slot(cell(w, m, list, NEXT));
+    cell(w, m, first, HEIGHT)
 }
 
 fn last_key(w: &[u32], m: usize, list: Slot) -> u32
     requires { ⌜ Listed (now w) m (list .0) × (0 < length (nodes (now w) (list .0))) ⌝ }
     ensures { λ r. ⌜ r ≡ lastKey (nodes (now (w .entry)) (list .0)) ⌝ }
 {
-    let last = Slot(cell(w, m, list, 3));
-    cell(w, m, last, 0)
+    let last = Slot(cell(w, m, list, LAST));
+    cell(w, m, last, KEY)
 }
 
 // Keeps the first n nodes; a list of no more than n stays as it is, word for word.

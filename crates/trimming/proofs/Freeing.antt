@@ -8,7 +8,7 @@ use native.Mathlib.Nat.{mul-le-mul-right}
 use native.Mathlib.Numerals.{add-one}
 use native.Mathlib.Omega.{arith}
 use borrow.Author.Tests.{le-leb, lt-leb}
-use Rattle.model.specs.Arena.{State, firstSlot, firstFree, nodeWords, freeWords, absent, recordOf, slots-of, encode}
+use Rattle.model.specs.Arena.{width, toColumn, farColumn, State, firstSlot, firstFree, nodeWords, freeWords, absent, recordOf, slots-of, encode}
 use Rattle.model.specs.Calls.{doTruncate}
 use Rattle.model.specs.Cells.{Cell, cellAt}
 use Rattle.model.specs.Links.{target}
@@ -22,10 +22,10 @@ use Rattle.model.proofs.Owners.{says-to, says-far, says-next}
 use Rattle.model.proofs.Records.{head-words, times-mid}
 use Rattle.model.proofs.Tests.{same, other, same?}
 use Rattle.arena.specs.Mixed.{Mix}
-use Rattle.arena.specs.Owners.{Listed}
-use Rattle.arena.proofs.Places.{length-encode}
+use Rattle.arena.specs.Owners.{Listed, Leaves}
+use Rattle.model.proofs.Columns.{length-encode}
 use Rattle.arena.proofs.Relink.{there, mix-header, relink-end}
-use Rattle.trimming.specs.Trims.{Trims, between, NodeAt, Cleared}
+use Rattle.trimming.specs.Trims.{between, NodeAt, Cleared}
 use Rattle.trimming.proofs.Between.{as-old, as-new, as-before}
 use Rattle.trimming.proofs.Shortened.{nothing-freed, length-freed, slot-in, as-node, once, as-free}
 use Rattle.trimming.proofs.Unlinking.{H, small, Ended, unlink-start, end-stage}
@@ -40,7 +40,7 @@ first-target : (ys : List Node) → target 0 ys ≡ firstSlot ys
 first-target [] = refl
 first-target (y ∷ ys) = rw (le-leb 0 (y .height) (omega arith)) refl
 
-module _ {w₀ : List ℕ} {m a n : ℕ} (p : Trims w₀ m a n) where
+module _ {w₀ : List ℕ} {m a n : ℕ} (p : Leaves w₀ m a n) where
   abbrev S : State
   S = decode w₀
 
@@ -57,7 +57,7 @@ module _ {w₀ : List ℕ} {m a n : ℕ} (p : Trims w₀ m a n) where
     pub rest : freed (drop i xs) fs ≡ T .free
     pub first : front ≡ firstFree fs
     pub head : take 8 w ≡ take 8 w₀
-    pub mixed : Mix m (slots-of S) (between S T (drop i xs)) (recordOf S) 0 (4 + 2 * m) w
+    pub mixed : Mix m (slots-of S) (between S T (drop i xs)) (recordOf S) 0 (width m) w
 
   pub few : length xs + length (S .free) ≤ 65535
   few = omega (arith, list-few S (p .listed .passes .sound) a, p .listed .passes .sizes .room-most)
@@ -91,7 +91,7 @@ module _ {w₀ : List ℕ} {m a n : ℕ} (p : Trims w₀ m a n) where
   long = omega (arith, ap length (p .listed .passes .words) ∙ length-encode S)
 
   -- ---- the loop ----
-  pub free-start : {e s front : ℕ} → e ≡ slotAt a xs n → s ≡ cellAt m w₀ e 2 → front ≡ getD w₀ 5 0 → {w : List ℕ} → Ended p 0 (4 + 2 * m) w → Freeing n s front w
+  pub free-start : {e s front : ℕ} → e ≡ slotAt a xs n → s ≡ cellAt m w₀ e 2 → front ≡ getD w₀ 5 0 → {w : List ℕ} → Ended p 0 (width m) w → Freeing n s front w
   free-start {e} {s} ee es ef g = record {
     slot = es ∙ old-word e 2 (end-stage p ee .known) (omega arith) ∙ end-stage p ee .old-to 2 (says-next (S .levels)) ∙ first-target (drop n xs) ∙ first-at xs n;
     fs = S .free;
@@ -118,7 +118,7 @@ module _ {w₀ : List ℕ} {m a n : ℕ} (p : Trims w₀ m a n) where
       cons : drop i xs ≡ y ∷ ys
       cons = drop-cons xs i (node N 0 0) l
 
-      word : (c : ℕ) → c < 4 + 2 * m → cellAt m w (y .slot) c ≡ getD (nodeWords (S .levels) y ys) c 0
+      word : (c : ℕ) → c < width m → cellAt m w (y .slot) c ≡ getD (nodeWords (S .levels) y ys) c 0
       word c k =
           g .mixed .new (y .slot) c y-in k (omega arith) k
           ∙ ap (λ (R : List ℕ). getD R c 0) (as-old S T (drop i xs) (y .slot) (rw cons (times-mid [] y ys)) ∙ as-node S (p .listed .passes .sound) a n (p .listed .list) i l)
@@ -129,15 +129,15 @@ module _ {w₀ : List ℕ} {m a n : ℕ} (p : Trims w₀ m a n) where
       pub node-at : NodeAt w m s
       node-at = rw (g .slot) (record {
         small = small p;
-        inside = omega (arith, g .mixed .size, mul-le-mul-right (4 + 2 * m) y-in);
+        inside = omega (arith, g .mixed .size, mul-le-mul-right (width m) y-in);
         low = omega (arith, word 1 (omega arith), low);
         third = word 3 (omega arith);
         absent = λ k x z.
             let km : k < S .levels = omega (arith, p .listed .levels) in
             let h : y .height < suc k = omega (arith, word 1 (omega arith)) in
             record {
-              to = word (4 + 2 * k) (omega arith) ∙ says-to (S .levels) k km .node y ys ∙ (rw (lt-leb (suc k) (y .height) h) refl);
-              far = word (5 + 2 * k) (omega arith) ∙ says-far (S .levels) k km .node y ys ∙ (rw (lt-leb (suc k) (y .height) h) refl);
+              to = word (toColumn k) (omega arith) ∙ says-to (S .levels) k km .node y ys ∙ (rw (lt-leb (suc k) (y .height) h) refl);
+              far = word (farColumn k) (omega arith) ∙ says-far (S .levels) k km .node y ys ∙ (rw (lt-leb (suc k) (y .height) h) refl);
             };
       })
 
@@ -147,7 +147,7 @@ module _ {w₀ : List ℕ} {m a n : ℕ} (p : Trims w₀ m a n) where
       pub free-turn : {next : ℕ} → next ≡ cellAt m w s 2 → {u : List ℕ} → Cleared m s front w u → length u ≡ length w → Freeing (i + 1) next s u
       free-turn {next} en {u} cleared size = rw add-one (turn (rw (g .slot) at en) (rw (g .slot) at cleared))
         where
-          freed-word : Cleared m (y .slot) front w u → (c : ℕ) → c < 4 + 2 * m → cellAt m u (y .slot) c ≡ getD (recordOf T (y .slot)) c 0
+          freed-word : Cleared m (y .slot) front w u → (c : ℕ) → c < width m → cellAt m u (y .slot) c ≡ getD (recordOf T (y .slot)) c 0
           freed-word q c k =
               q .form c k ∙ ap (λ (f : ℕ). getD (0 ∷ N ∷ f ∷ 0 ∷ absent m) c 0) (g .first) ∙ ap (λ (h : ℕ). getD (freeWords h (g .fs)) c 0) (p .listed .levels)
               ∙ sym (ap (λ (R : List ℕ). getD R c 0) (as-free S (p .listed .passes .sound) a n (p .listed .list) i l (g .fs) (g .rest)))
@@ -175,7 +175,7 @@ module _ {w₀ : List ℕ} {m a n : ℕ} (p : Trims w₀ m a n) where
       none : drop i xs ≡ []
       none = drop-of-length-le xs {i = i} done
 
-      all-new : Mix m (slots-of S) (recordOf T) (recordOf S) 0 (4 + 2 * m) w
+      all-new : Mix m (slots-of S) (recordOf T) (recordOf S) 0 (width m) w
       all-new = record {
         size = g .mixed .size;
         new = λ z c x k b d. g .mixed .new z c x k b d ∙ ap (λ (R : List ℕ). getD R c 0) (as-new S T (drop i xs) z (rw none refl));

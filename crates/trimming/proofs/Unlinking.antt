@@ -8,7 +8,7 @@ use lib.ListN.{length, take, drop, getD}
 use lib.Seq.{length-take-le}
 use native.Mathlib.Nat.{le-antisymm}
 use native.Mathlib.Omega.{arith}
-use Rattle.model.specs.Arena.{State, headWords, recordOf, slots-of}
+use Rattle.model.specs.Arena.{width, toColumn, farColumn, State, headWords, recordOf, slots-of}
 use Rattle.model.specs.Calls.{doTruncate}
 use Rattle.model.specs.Cells.{Cell, putAt}
 use Rattle.model.specs.Nodes.{Node, N, slotAt}
@@ -20,14 +20,14 @@ use Rattle.model.proofs.Splitting.{slot-take, last-slot-take}
 use Rattle.model.proofs.Tests.{same, other, same?}
 use Rattle.model.proofs.Walk.{last-le, last-zero}
 use Rattle.arena.specs.Mixed.{Mix}
-use Rattle.arena.specs.Owners.{Before}
+use Rattle.arena.specs.Owners.{Before, Leaves}
 use Rattle.arena.proofs.Cells.{put-front, one-up, one-down, skip-down, mix-start}
 use Rattle.arena.proofs.Relink.{there}
-use Rattle.trimming.specs.Trims.{Trims, between, Unlinked}
+use Rattle.trimming.specs.Trims.{between, Unlinked}
 use Rattle.trimming.proofs.Between.{as-new, differs-at}
 use Rattle.trimming.proofs.Shortened.{hangs, stays}
 
-module _ {w₀ : List ℕ} {m a n : ℕ} (p : Trims w₀ m a n) where
+module _ {w₀ : List ℕ} {m a n : ℕ} (p : Leaves w₀ m a n) where
   abbrev S : State
   S = decode w₀
 
@@ -71,34 +71,34 @@ module _ {w₀ : List ℕ} {m a n : ℕ} (p : Trims w₀ m a n) where
   pub same-size : {lo hi : ℕ} {w : List ℕ} → Ended lo hi w → length w ≡ length w₀
   same-size g = g .mixed .size ∙ sym (unlink-start .mixed .size)
 
-  module _ {slots ranks : List ℕ} (q : Before w₀ m a n slots ranks) {l : ℕ} {w : List ℕ} (g : Ended 4 (4 + 2 * l) w) (k : l < m) where
+  module _ {slots ranks : List ℕ} (q : Before w₀ m a n slots ranks) {l : ℕ} {w : List ℕ} (g : Ended 4 (toColumn l) w) (k : l < m) where
     abbrev s : ℕ
     s = getD slots l 0
 
     st : Stage H (suc l) s (getD ranks l 0)
     st = stage-of (suc l) s (getD ranks l 0) (omega arith) (q .rank l k) (q .slot l k)
 
-    pub link-at : Cell w m s (5 + 2 * l)
-    link-at = there m (slots-of S) small w (g .mixed) s (5 + 2 * l) (st .known) (omega arith)
+    pub link-at : Cell w m s (farColumn l)
+    link-at = there m (slots-of S) small w (g .mixed) s (farColumn l) (st .known) (omega arith)
 
-    pub unlink-turn : {x : List ℕ} → x ≡ putAt m (putAt m w s (4 + 2 * l) N) s (5 + 2 * l) 0 → Ended 4 (4 + 2 * (l + 1)) x
+    pub unlink-turn : {x : List ℕ} → x ≡ putAt m (putAt m w s (toColumn l) N) s (farColumn l) 0 → Ended 4 (toColumn (l + 1)) x
     unlink-turn ex =
         let lm : l < S .levels = omega (arith, p .listed .levels) in
         let to = says-to (S .levels) l lm in
         let far = says-far (S .levels) l lm in
-        let half = one-up m (slots-of S) R (recordOf S) w (4 + 2 * l) s N (omega arith) (st .known) (differs-at S T (drop n xs) (4 + 2 * l) s (st .same-to (4 + 2 * l) to))
-        (stays-new (st .owner) (4 + 2 * l) ∙ st .new-to (4 + 2 * l) to) 4 (4 + 2 * l) (5 + 2 * l) (omega arith) refl (omega arith) (g .mixed) in
+        let half = one-up m (slots-of S) R (recordOf S) w (toColumn l) s N (omega arith) (st .known) (differs-at S T (drop n xs) (toColumn l) s (st .same-to (toColumn l) to))
+        (stays-new (st .owner) (toColumn l) ∙ st .new-to (toColumn l) to) 4 (toColumn l) (farColumn l) (omega arith) refl (omega arith) (g .mixed) in
         record {
           front = rw (ex, put-front, put-front) (g .front);
-          mixed = rw ex (one-up m (slots-of S) R (recordOf S) (putAt m w s (4 + 2 * l) N) (5 + 2 * l) s 0 (omega arith) (st .known)
-              (differs-at S T (drop n xs) (5 + 2 * l) s (st .same-far (5 + 2 * l) far)) (stays-new (st .owner) (5 + 2 * l) ∙ st .new-far (5 + 2 * l) far)
-              4 (5 + 2 * l) (4 + 2 * (l + 1)) (omega arith) refl (omega arith) half);
+          mixed = rw ex (one-up m (slots-of S) R (recordOf S) (putAt m w s (toColumn l) N) (farColumn l) s 0 (omega arith) (st .known)
+              (differs-at S T (drop n xs) (farColumn l) s (st .same-far (farColumn l) far)) (stays-new (st .owner) (farColumn l) ∙ st .new-far (farColumn l) far)
+              4 (farColumn l) (toColumn (l + 1)) (omega arith) refl (omega arith) half);
         }
 
-  pub unlinked : {l : ℕ} {w : List ℕ} → Ended 4 (4 + 2 * l) w → l ≤ m → m ≤ l → Unlinked w₀ m a n w
+  pub unlinked : {l : ℕ} {w : List ℕ} → Ended 4 (toColumn l) w → l ≤ m → m ≤ l → Unlinked w₀ m a n w
   unlinked {l} {w} g x y =
       let e : l ≡ m = le-antisymm x y in
-      let h : Ended 4 (4 + 2 * m) w = subst (λ (k : ℕ). Ended 4 (4 + 2 * k) w) e g in
+      let h : Ended 4 (width m) w = subst (λ (k : ℕ). Ended 4 (toColumn k) w) e g in
       record { front = h .front; mixed = h .mixed }
 
   -- ---- the head, and the slot e of rank n ----
@@ -122,18 +122,18 @@ module _ {w₀ : List ℕ} {m a n : ℕ} (p : Trims w₀ m a n) where
       pub both-there : Cell w m a 3 × Cell w m e 2
       both-there = (there m (slots-of S) small w (g .mixed) a 3 a-in (omega arith), there m (slots-of S) small w (g .mixed) e 2 (end-stage .known) (omega arith))
 
-      pub ended : {x : List ℕ} → x ≡ putAt m (putAt m (putAt m w a 3 (cond (eqb n 0) N e)) e 2 N) a 0 n → Ended 0 (4 + 2 * m) x
+      pub ended : {x : List ℕ} → x ≡ putAt m (putAt m (putAt m w a 3 (cond (eqb n 0) N e)) e 2 N) a 0 n → Ended 0 (width m) x
       ended ex =
           let w₃ = putAt m w a 3 (cond (eqb n 0) N e) in
           let w₂ = putAt m w₃ e 2 N in
           let next = says-next (S .levels) in
           let mix₃ = one-down m (slots-of S) R (recordOf S) w 3 a (cond (eqb n 0) N e) (omega arith) a-in (differs-at S T (drop n xs) 3 a (same-3 H)) new-last
-          4 (4 + 2 * m) (omega arith) refl (g .mixed) in
+          4 (width m) (omega arith) refl (g .mixed) in
           let mix₂ = one-down m (slots-of S) R (recordOf S) w₃ 2 e N (omega arith) (end-stage .known) (differs-at S T (drop n xs) 2 e (end-stage .same-to 2 next))
-          (stays-new (end-stage .owner) 2 ∙ end-stage .new-to 2 next) 3 (4 + 2 * m) (omega arith) refl mix₃ in
-          let mix₁ = skip-down m (slots-of S) R (recordOf S) w₂ 1 2 (4 + 2 * m) (omega arith) refl (omega arith)
+          (stays-new (end-stage .owner) 2 ∙ end-stage .new-to 2 next) 3 (width m) (omega arith) refl mix₃ in
+          let mix₁ = skip-down m (slots-of S) R (recordOf S) w₂ 1 2 (width m) (omega arith) refl (omega arith)
           (λ s l. differs-at S T (drop n xs) 1 (slots-of S) (λ z x ne. same-1 H z x) s l (λ f. omega arith)) mix₂ in
           record {
             front = rw (ex, put-front, put-front, put-front) (g .front);
-            mixed = rw ex (one-down m (slots-of S) R (recordOf S) w₂ 0 a n (omega arith) a-in (differs-at S T (drop n xs) 0 a (same-0 H)) (new-head 0 ∙ length-A) 1 (4 + 2 * m) (omega arith) refl mix₁);
+            mixed = rw ex (one-down m (slots-of S) R (recordOf S) w₂ 0 a n (omega arith) a-in (differs-at S T (drop n xs) 0 a (same-0 H)) (new-head 0 ∙ length-A) 1 (width m) (omega arith) refl mix₁);
           }

@@ -7,37 +7,32 @@ use mathlib.Core.List.{List, [], _∷_}
 use lib.Dec.{leb}
 use lib.ListN.{length, take, drop, getD}
 use Rattle.model.specs.Nodes.{Node}
-use Rattle.model.specs.Arena.{State, freeWords, recordOf, slots-of}
+use Rattle.model.specs.Arena.{headerWords, width, toColumn, heightColumn, lastColumn, State, freeWords, recordOf, slots-of}
 use Rattle.model.specs.Calls.{doTruncate}
-use Rattle.model.specs.Cells.{cellAt}
+use Rattle.model.specs.Cells.{place, cellAt}
 use Rattle.model.specs.Passes.{decode, nodes, times, Absent}
 use Rattle.arena.specs.Mixed.{Mix}
 use Rattle.arena.specs.Owners.{Listed}
-
--- List a has more than n nodes.
-pub record Trims (w : List ℕ) (m a n : ℕ) : Type 0 where
-  pub listed : Listed w m a
-  pub index : n < length (nodes w a)
 
 -- The records while the nodes `ys` are still to be freed: theirs are as in S, all others as in T.
 unfoldable pub between : State → State → List Node → ℕ → List ℕ
 between S T ys s = cond (leb 1 (times s ys)) (recordOf S s) (recordOf T s)
 
--- The header and the columns 0 to 3 are as before; the links are as truncated, but for the nodes from index n on.
+-- The header and the columns before the links are as before; the links are as truncated, but for the nodes from index n on.
 pub record Unlinked (before : List ℕ) (m a n : ℕ) (after : List ℕ) : Type 0 where
-  pub front : take 8 after ≡ take 8 before
-  pub mixed : Mix m (slots-of (decode before)) (between (decode before) (doTruncate (decode before) a n) (drop n (nodes before a))) (recordOf (decode before)) 4 (4 + 2 * m) after
+  pub front : take headerWords after ≡ take headerWords before
+  pub mixed : Mix m (slots-of (decode before)) (between (decode before) (doTruncate (decode before) a n) (drop n (nodes before a))) (recordOf (decode before)) (toColumn 0) (width m) after
 
 -- The record of slot s lies in the slice and has a node's form.
 pub record NodeAt (w : List ℕ) (m s : ℕ) : Type 0 where
   pub small : m ≤ 16
-  pub inside : 8 + s * (4 + 2 * m) + (4 + 2 * m) ≤ length w
-  pub low : cellAt m w s 1 ≤ m
-  pub third : cellAt m w s 3 ≡ 0
-  pub absent : (l : ℕ) → cellAt m w s 1 ≤ l → l < m → Absent m w s l
+  pub inside : place m s + width m ≤ length w
+  pub low : cellAt m w s heightColumn ≤ m
+  pub third : cellAt m w s lastColumn ≡ 0
+  pub absent : (l : ℕ) → cellAt m w s heightColumn ≤ l → l < m → Absent m w s l
 
 -- It has taken the free column's form, with `next` as next free; no other word has changed.
 pub record Cleared (m s next : ℕ) (w u : List ℕ) : Type 0 where
-  pub front : take 8 u ≡ take 8 w
-  pub others : (z c : ℕ) → z ≢ s → c < 4 + 2 * m → cellAt m u z c ≡ cellAt m w z c
-  pub form : (c : ℕ) → c < 4 + 2 * m → cellAt m u s c ≡ getD (freeWords m (next ∷ [])) c 0
+  pub front : take headerWords u ≡ take headerWords w
+  pub others : (z c : ℕ) → z ≢ s → c < width m → cellAt m u z c ≡ cellAt m w z c
+  pub form : (c : ℕ) → c < width m → cellAt m u s c ≡ getD (freeWords m (next ∷ [])) c 0

@@ -9,14 +9,15 @@ use native.Mathlib.Omega.{arith}
 use borrow.Author.Tests.{le-leb}
 use Rattle.model.specs.Nodes.{Node, node, N, at, keyAt, slotAt}
 use Rattle.model.specs.Links.{further, distance, target}
-use Rattle.model.specs.Arena.{firstSlot}
+use Rattle.model.specs.Arena.{width, toColumn, farColumn, firstSlot}
 use Rattle.model.specs.Cells.{Cell, cellAt, recordAt}
 use Rattle.model.specs.Passes.{decode, nodes}
 use Rattle.model.proofs.Tests.{hit, miss, test}
 use Rattle.model.proofs.Steps.{further-one, target-at}
+use Rattle.model.proofs.Columns.{cell-record}
 use Rattle.model.proofs.Counting.{list-few}
 use Rattle.arena.specs.Owners.{Owner, Listed}
-use Rattle.arena.proofs.Places.{word-rec, fits, slot-in, linked, link-to, link-far, key-word, length-word}
+use Rattle.arena.proofs.Places.{fits, slot-in, linked, link-to, link-far, key-word, length-word}
 use Rattle.walk.specs.Standing.{At, Placed}
 
 -- a link goes to a node of its stage, within the list
@@ -83,7 +84,7 @@ module _ {w : List ℕ} {m a i h s r : ℕ} (g : At w m a i h s r) where
   pub few : length (nodes w a) < 65536
   few = omega (arith, list-few (decode w) (g .owner .passes .sound) a, g .owner .passes .sizes .room-most)
 
-  pub cell-here : (c : ℕ) → c < 4 + 2 * m → Cell w m s c
+  pub cell-here : (c : ℕ) → c < width m → Cell w m s c
   cell-here c k =
       rw (g .levels) (record {
         small = g .owner .passes .sizes .levels-most;
@@ -99,15 +100,14 @@ module _ {w : List ℕ} {m a i h s r : ℕ} (g : At w m a i h s r) where
     within = g .within;
   }
 
-  in-record : (c : ℕ) → c < 4 + 2 * m → cellAt m w s c ≡ getD (recordAt (decode w .levels) w s) c 0
-  unfolding cellAt
-  in-record c k = word-rec m w s c k ∙ ap (λ (n : ℕ). getD (recordAt n w s) c 0) (g .levels)
+  in-record : (c : ℕ) → c < width m → cellAt m w s c ≡ getD (recordAt (decode w .levels) w s) c 0
+  in-record c k = cell-record m w s c k ∙ ap (λ (n : ℕ). getD (recordAt n w s) c 0) (g .levels)
 
-  pub to-word : (l : ℕ) → suc l ≡ h → cellAt m w s (4 + 2 * l) ≡ target h (drop r (nodes w a))
-  to-word l e = in-record (4 + 2 * l) (omega (arith, g .levels, g .owner .level)) ∙ link-to (g .owner) l e
+  pub to-word : (l : ℕ) → suc l ≡ h → cellAt m w s (toColumn l) ≡ target h (drop r (nodes w a))
+  to-word l e = in-record (toColumn l) (omega (arith, g .levels, g .owner .level)) ∙ link-to (g .owner) l e
 
-  pub far-word : (l : ℕ) → suc l ≡ h → cellAt m w s (5 + 2 * l) ≡ distance h (drop r (nodes w a))
-  far-word l e = in-record (5 + 2 * l) (omega (arith, g .levels, g .owner .level)) ∙ link-far (g .owner) l e
+  pub far-word : (l : ℕ) → suc l ≡ h → cellAt m w s (farColumn l) ≡ distance h (drop r (nodes w a))
+  far-word l e = in-record (farColumn l) (omega (arith, g .levels, g .owner .level)) ∙ link-far (g .owner) l e
 
   -- next is the link of stage 0
   pub next-word : cellAt m w s 2 ≡ target 0 (drop r (nodes w a))
@@ -126,23 +126,22 @@ pub key-read : (w : List ℕ) {m s base v : ℕ} → Placed m s base → v ≡ g
 key-read w {base = base} p e = word-is w p 0 base (omega arith) e
 
 module _ {w : List ℕ} {m a i h s r base : ℕ} (g : At w m a i h s r) (p : Placed m s base) where
-  pub inside : (c at : ℕ) → at ≡ base + c → c < 4 + 2 * m → at < length w
+  pub inside : (c at : ℕ) → at ≡ base + c → c < width m → at < length w
   inside c at f k = omega (arith, p .is, cell-here g c k .inside)
 
   -- the link of stage h, which is that of level h - 1, is in the record
   pub stage-in : 0 < h → (at : ℕ) → at ≤ base + 3 + 2 * h → at < length w
-  stage-in z at f = omega (arith, inside (5 + 2 * (h - 1)) (base + (5 + 2 * (h - 1))) refl (omega (arith, g .owner .level, g .levels)))
+  stage-in z at f = omega (arith, inside (farColumn (h - 1)) (base + (farColumn (h - 1))) refl (omega (arith, g .owner .level, g .levels)))
 
   pub to-read : 0 < h → {at v : ℕ} → at ≡ base + 2 + 2 * h → v ≡ getD w at 0 → v ≡ target h (drop r (nodes w a))
-  to-read z {at} f q = word-is w p (4 + 2 * (h - 1)) at (omega arith) q ∙ to-word g (h - 1) (omega arith)
+  to-read z {at} f q = word-is w p (toColumn (h - 1)) at (omega arith) q ∙ to-word g (h - 1) (omega arith)
 
   pub far-read : 0 < h → {at v : ℕ} → at ≡ base + 3 + 2 * h → v ≡ getD w at 0 → v ≡ distance h (drop r (nodes w a))
-  far-read z {at} f q = word-is w p (5 + 2 * (h - 1)) at (omega arith) q ∙ far-word g (h - 1) (omega arith)
+  far-read z {at} f q = word-is w p (farColumn (h - 1)) at (omega arith) q ∙ far-word g (h - 1) (omega arith)
 
   pub next-read : {at : ℕ} → at ≡ base + 2 → {v : ℕ} → v ≡ getD w at 0 → v ≡ target 0 (drop r (nodes w a))
   next-read {at} f q = word-is w p 2 at f q ∙ next-word g
 
 -- the head's first word is the length
 pub length-cell : {w : List ℕ} {m a : ℕ} → Listed w m a → cellAt m w a 0 ≡ length (nodes w a)
-unfolding cellAt
 length-cell {w} {m} {a} g = rw (g .levels) (sym (length-word w (g .passes) a (g .list)))

@@ -3,6 +3,7 @@ use Prim.Native.Nat.{_+_, _*_, _-_, _≤_}
 use mathlib.Core.Path.{sym, _∙_}
 use native.Mathlib.Omega.{arith}
 use borrow.Author.Needs.{needs}
+use Rattle.model.specs.Arena.{width}
 use Rattle.setup.specs.Bare.{bareWords}
 use Rattle.setup.proofs.Filling.{Storing, store-none, store-cell, store-more, store-all}
 use Rattle.setup.proofs.New.{bare-at}
@@ -10,10 +11,10 @@ use Rattle.setup.proofs.write_record.Statement.{statement}
 use Rattle.setup.proofs.write_record.Tie as tie
 
 abbrev Inv-loop : tie.InvT-loop
-Inv-loop w₀ m s f c₀ w c = Storing m w₀ (s .0) (bareWords m (f .a) (f .b) (f .e) (f .d)) c w × (c ≤ 4 + 2 * m)
+Inv-loop w₀ m s f c₀ w c = Storing m w₀ (s .0) (bareWords m (f .a) (f .b) (f .e) (f .d)) c w × (c ≤ width m)
 
 abbrev μ-loop : tie.MeasureT-loop
-μ-loop w₀ m s f c₀ w c = 4 + 2 * m - c
+μ-loop w₀ m s f c₀ w c = width m - c
 
 loop-holds : tie.Need-loop-holds Inv-loop μ-loop
 loop-holds c = (store-none, omega arith)

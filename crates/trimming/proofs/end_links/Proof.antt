@@ -2,14 +2,14 @@
 use Prim.Native.Nat.{ℕ, _+_, _*_, _-_, _≤_}
 use mathlib.Core.List.{List}
 use native.Mathlib.Omega.{arith}
-use Rattle.arena.specs.Owners.{Before}
-use Rattle.trimming.specs.Trims.{Trims}
+use Rattle.model.specs.Arena.{toColumn}
+use Rattle.arena.specs.Owners.{Before, Leaves}
 use Rattle.trimming.proofs.Unlinking.{small, Ended, unlink-start, same-size, link-at, unlink-turn, unlinked}
 use Rattle.trimming.proofs.end_links.Statement.{statement}
 use Rattle.trimming.proofs.end_links.Tie as tie
 
 abbrev Inv-loop : tie.InvT-loop
-Inv-loop w₀ m slots l₀ w l = ((a n : ℕ) (p : Trims w₀ m a n) (ranks : List ℕ) → Before w₀ m a n slots ranks → Ended p 4 (4 + 2 * l) w) × (l ≤ m)
+Inv-loop w₀ m slots l₀ w l = ((a n : ℕ) (p : Leaves w₀ m a n) (ranks : List ℕ) → Before w₀ m a n slots ranks → Ended p 4 (toColumn l) w) × (l ≤ m)
 
 abbrev μ-loop : tie.MeasureT-loop
 μ-loop w₀ m slots l₀ w l = m - l

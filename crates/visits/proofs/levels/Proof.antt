@@ -3,7 +3,7 @@ use mathlib.Core.Path.{refl, ap, _∙_}
 use native.Mathlib.Omega.{arith}
 use borrow.Author.Needs.{needs}
 use Rattle.model.specs.Passes.{decode}
-use Rattle.arena.proofs.Places.{length-encode}
+use Rattle.model.proofs.Columns.{length-encode}
 use Rattle.visits.proofs.levels.Statement.{statement}
 use Rattle.visits.proofs.levels.Tie as tie
 use lib.ListN.{length}

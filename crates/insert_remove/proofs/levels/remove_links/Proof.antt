@@ -6,9 +6,8 @@ use lib.ListN.{take}
 use Rattle.model.specs.Calls.{doRemove}
 use Rattle.model.specs.Nodes.{at}
 use Rattle.model.specs.Passes.{decode, nodes}
-use Rattle.arena.specs.Owners.{Before}
+use Rattle.arena.specs.Owners.{Before, Leaves}
 use Rattle.arena.proofs.Relink.{Relinked}
-use Rattle.insert_remove.specs.Changes.{Leaves}
 use Rattle.insert_remove.proofs.RemoveLinks.{small, remove-start, remove-size, removed, rank-le, level-is, turn}
 use Rattle.insert_remove.proofs.levels.remove_links.Statement.{statement}
 use Rattle.insert_remove.proofs.levels.remove_links.Tie as tie

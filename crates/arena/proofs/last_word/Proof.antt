@@ -1,8 +1,8 @@
--- `split_join::last_word` meets its contract: each return rewrites the definition by the test that led to it.
+-- `arena::last_word` meets its contract: each return rewrites the definition by the test that led to it.
 use borrow.Author.Needs.{needs}
 use borrow.Author.Tests.{eq-eqb, ne-eqb}
-use Rattle.split_join.proofs.last_word.Statement.{statement}
-use Rattle.split_join.proofs.last_word.Tie as tie
+use Rattle.arena.proofs.last_word.Statement.{statement}
+use Rattle.arena.proofs.last_word.Tie as tie
 
 returns : tie.Need-returns
 returns c = search (needs, eq-eqb)
