@@ -1,23 +1,21 @@
 -- What the words of an arena that passes say at the places that the code reads.
-use Prim.Native.Nat.{ℕ, zero, suc, _+_, _-_, _*_, _≤_, _<_}
+use Prim.Native.Nat.{ℕ, zero, suc, _+_, _*_, _≤_, _<_}
 use mathlib.Core.Path.{_≡_, refl, sym, ap, _∙_, subst}
-use mathlib.Core.Bool.{Bool, true, false, cond}
-use mathlib.Core.List.{List, [], _∷_, _++_}
-use lib.Dec.{leb, ltb, eqb}
-use lib.ListN.{length, take, drop, getD, length-append}
-use lib.Seq.{getD-take, getD-drop, split-at, drop-cons}
+use mathlib.Core.List.{List}
+use lib.ListN.{length, take, drop, getD}
+use lib.Seq.{split-at}
 use native.Mathlib.Nat.{not-suc-le-zero, add-zero, mul-le-mul-right}
 use native.Mathlib.Omega.{arith}
 use borrow.Author.Tests.{lt-ltb}
 use Rattle.arena.specs.Owners.{Owner}
-use Rattle.model.specs.Arena.{width, toColumn, farColumn, State, nodeLinks, nodeWords, headWords, firstSlot, recordOf, records, header, encode, listOf}
+use Rattle.model.specs.Arena.{width, toColumn, farColumn, State, nodeLinks, nodeWords, headWords, firstSlot, encode, listOf}
 use Rattle.model.specs.Cells.{recordAt, cellAt}
-use Rattle.model.specs.Links.{target, distance, further}
+use Rattle.model.specs.Links.{target, distance}
 use Rattle.model.specs.Nodes.{Node, node, N, slotAt, heightAt, at}
-use Rattle.model.specs.Passes.{decode, times, timesAll, timesFree, Sound, Passes, Sizes, nodes}
+use Rattle.model.specs.Passes.{decode, times, Sound, Passes, nodes}
 use Rattle.model.proofs.Columns.{cell-record, length-encode}
-use Rattle.model.proofs.Records.{rec-encode, record-node, length-record, placed, times-mid, timesAll-ge}
-use Rattle.model.proofs.Tests.{Test, hit, miss, test}
+use Rattle.model.proofs.Records.{rec-encode, record-node, placed, times-mid, timesAll-ge}
+use Rattle.model.proofs.Tests.{hit, miss, test}
 
 link-words : (l₀ n ht : ℕ) (ys : List Node) (l : ℕ) → l < n → l₀ + l < ht
     → (getD (nodeLinks l₀ n ht ys) (2 * l) 0 ≡ target (suc (l₀ + l)) ys) × (getD (nodeLinks l₀ n ht ys) (suc (2 * l)) 0 ≡ distance (suc (l₀ + l)) ys)

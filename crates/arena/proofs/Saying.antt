@@ -1,7 +1,6 @@
 -- What an answer of yes, and one of no, tell of what was asked. Rests on specs/Says.
 use mathlib.Core.Path.{_≡_}
 use mathlib.Core.Bool.{Bool, true, false}
-use lib.Dec.{T}
 use Rattle.arena.specs.Says.{Says}
 
 pub yes : {b : Bool} {P : Type 0} → Says b P → b ≡ true → P

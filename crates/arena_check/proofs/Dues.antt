@@ -1,18 +1,18 @@
 -- A pending link, at one level: what it says of the nodes that are left. Rests on model's Links.
-use Prim.Native.Nat.{ℕ, zero, suc, _+_, _-_, _*_, _≤_, _<_}
-use mathlib.Core.Path.{_≡_, refl, sym, ap, _∙_}
-use mathlib.Core.Bool.{true, false, cond}
+use Prim.Native.Nat.{ℕ, zero, suc, _+_, _-_, _≤_, _<_}
+use mathlib.Core.Path.{_≡_, refl, sym, _∙_}
+use mathlib.Core.Bool.{true, false}
 use mathlib.Core.List.{List, [], _∷_}
 use lib.Dec.{leb}
 use native.Mathlib.Omega.{arith}
 use borrow.Author.Tests.{le-leb, lt-leb}
 use Rattle.model.specs.Cells.{cellAt}
 use Rattle.model.specs.Links.{target, distance, further}
-use Rattle.model.specs.Nodes.{Node, N}
+use Rattle.model.specs.Nodes.{Node}
 use Rattle.model.specs.Passes.{LinkIs, Absent}
 use Rattle.model.specs.Arena.{toColumn, farColumn}
 use Rattle.model.proofs.Links.{past}
-use Rattle.arena_check.specs.Walked.{Spans, Meets}
+use Rattle.arena_check.specs.Walked.{Meets}
 
 -- the link at level l of slot o, which has rank q, is right where xs are left after rank r
 pub record Due (M : ℕ) (w : List ℕ) (o q l r : ℕ) (xs : List Node) : Type 0 where

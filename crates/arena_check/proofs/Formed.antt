@@ -1,19 +1,19 @@
 -- A walk along a list finds it right exactly when each node by itself has its form, keys never fall, the pending links are due and the
 -- last slot is the one named. Rests on specs/Walked and Dues.
-use Prim.Native.Nat.{ℕ, zero, suc, _+_, _-_, _*_, _≤_, _<_}
-use mathlib.Core.Path.{_≡_, refl, sym, ap, _∙_, subst}
+use Prim.Native.Nat.{ℕ, zero, suc, _≤_, _<_}
+use mathlib.Core.Path.{_≡_, refl, ap, _∙_}
 use mathlib.Core.List.{List, [], _∷_}
 use lib.ListN.{length, getD}
 use native.Mathlib.Omega.{arith}
 use Rattle.model.specs.Cells.{cellAt}
 use Rattle.model.specs.Nodes.{Node, node, N}
-use Rattle.model.specs.Passes.{LinkIs, Absent, chain}
+use Rattle.model.specs.Passes.{LinkIs, chain}
 use Rattle.model.proofs.Columns.{chain-step}
-use Rattle.model.proofs.Tests.{Test, hit, miss, test}
+use Rattle.model.proofs.Tests.{hit, miss, test}
 use Rattle.arena_check.specs.declared.Dims.{Dims}
 use Rattle.arena_check.specs.Sizes.{Within}
 use Rattle.arena_check.specs.Free.{AbsentFrom}
-use Rattle.arena_check.specs.Walked.{Meets, Closes, Loose, NodeOk, Walked, filled}
+use Rattle.arena_check.specs.Walked.{Closes, Walked, filled}
 use Rattle.arena_check.proofs.Dues.{Due, due-own, own-due, due-end, end-due, due-meets, meets-due, due-on, on-due}
 use Rattle.arena_check.proofs.Levels.{filled-above, filled-below, length-filled}
 

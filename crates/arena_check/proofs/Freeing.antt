@@ -1,8 +1,8 @@
 -- What the walk along the free chain has shown, in the words of document 01's clauses, and back. Rests on specs/Free and model's Chained.
-use Prim.Native.Nat.{ℕ, zero, suc, _+_, _*_, _≤_, _<_}
+use Prim.Native.Nat.{ℕ, zero, suc}
 use mathlib.Core.Path.{_≡_, refl, sym, ap, _∙_, subst}
 use mathlib.Core.List.{List, [], _∷_, _++_}
-use lib.ListN.{length, getD, length-append}
+use lib.ListN.{length, length-append}
 use lib.Seq.{append-snoc}
 use native.Mathlib.Omega.{arith}
 use Rattle.model.specs.Cells.{cellAt}

@@ -1,13 +1,13 @@
 -- The tests of all heads: lengths within the room, and last slots that differ. Rests on specs/Sizes.
 use Prim.Native.Nat.{ℕ, zero, suc, _+_, _≤_, _<_}
-use mathlib.Core.Path.{_≡_, refl, sym, _∙_}
-use mathlib.Core.Bool.{Bool, true, false}
+use mathlib.Core.Path.{_≡_, sym, _∙_}
+use mathlib.Core.Bool.{true, false}
 use mathlib.Core.List.{List}
 use lib.ListN.{getD}
 use native.Mathlib.Omega.{arith}
 use Rattle.model.specs.Cells.{cellAt}
 use Rattle.model.specs.Nodes.{N}
-use Rattle.model.proofs.Tests.{Test, hit, miss, test}
+use Rattle.model.proofs.Tests.{hit, miss, test}
 use Rattle.arena_check.specs.declared.Dims.{Dims}
 use Rattle.arena.specs.Says.{Says}
 use Rattle.arena_check.specs.Answers.{Below}

@@ -1,5 +1,5 @@
 -- The loops over the levels: what holds of the levels passed. Rests on specs/Free and specs/Walked.
-use Prim.Native.Nat.{ℕ, zero, suc, _+_, _*_, _≤_, _<_}
+use Prim.Native.Nat.{ℕ, zero, suc, _+_, _≤_, _<_}
 use mathlib.Core.Path.{_≡_, refl, sym, ap, _∙_}
 use mathlib.Core.Bool.{Bool, true, false}
 use mathlib.Core.List.{List}
@@ -11,7 +11,7 @@ use Rattle.model.specs.Cells.{cellAt}
 use Rattle.model.specs.Nodes.{N}
 use Rattle.model.specs.Passes.{Absent}
 use Rattle.model.specs.Arena.{toColumn, farColumn}
-use Rattle.model.proofs.Tests.{Test, hit, miss, test}
+use Rattle.model.proofs.Tests.{hit, miss, test}
 use Rattle.arena_check.specs.declared.Dims.{Dims}
 use Rattle.arena.specs.Says.{Says}
 use Rattle.arena_check.specs.Answers.{Below}

@@ -1,5 +1,5 @@
 -- What the walk along a list has shown, in the words of document 01's clauses, and back. Rests on Formed and model's Chained.
-use Prim.Native.Nat.{ℕ, zero, suc, _+_, _*_, _≤_, _<_}
+use Prim.Native.Nat.{ℕ, zero, suc, _≤_, _<_}
 use mathlib.Core.Path.{_≡_, refl, sym, ap, _∙_, subst}
 use mathlib.Core.List.{List, [], _∷_, _++_}
 use lib.ListN.{length, getD, replicate, getD-replicate, length-append}
@@ -8,14 +8,13 @@ use native.Mathlib.Omega.{arith}
 use Rattle.model.specs.Arena.{lastSlot}
 use Rattle.model.specs.Cells.{cellAt}
 use Rattle.model.specs.Nodes.{Node, node, N, Above, Sorted, Low}
-use Rattle.model.specs.Passes.{LinkIs, Absent, Chained}
-use Rattle.model.proofs.Chained.{chained-more, chained-next, chained-none}
+use Rattle.model.specs.Passes.{LinkIs, Chained}
+use Rattle.model.proofs.Chained.{chained-more, chained-next}
 use Rattle.arena_check.specs.declared.Dims.{Dims}
 use Rattle.arena_check.specs.Sizes.{Within, Shape}
-use Rattle.arena_check.specs.Free.{AbsentFrom}
-use Rattle.arena_check.specs.Walked.{WalkOk, ListOk}
+use Rattle.arena_check.specs.Walked.{ListOk}
 use Rattle.arena_check.proofs.Dues.{Due, due-own, own-due}
-use Rattle.arena_check.proofs.Formed.{run, Form, Formed, Rises, lastFrom, Pends, Right, Arrays, walked-right, right-walked}
+use Rattle.arena_check.proofs.Formed.{run, Form, Formed, Rises, lastFrom, Arrays, walked-right, right-walked}
 
 above-less : (k j : ℕ) (ys : List Node) → k ≤ j → Above j ys → Above k ys
 above-less k j [] l a = tt

@@ -1,20 +1,19 @@
 -- Each node slot is in exactly one list or on the free chain, without marks: chains that end apart, and lengths that add up to the room.
 -- Rests on Slots, Formed and model's Apart.
-use Prim.Native.Nat.{ℕ, zero, suc, _+_, _≤_, _<_}
-use mathlib.Core.Path.{_≡_, refl, sym, ap, _∙_, subst}
-use mathlib.Core.List.{List, [], _∷_}
-use lib.ListN.{length, getD}
+use Prim.Native.Nat.{ℕ, zero, suc, _≤_}
+use mathlib.Core.Path.{_≡_, refl, sym, subst}
+use mathlib.Core.List.{List}
 use native.Mathlib.Omega.{arith}
 use Rattle.model.specs.Arena.{lastSlot}
 use Rattle.model.specs.Cells.{cellAt}
-use Rattle.model.specs.Nodes.{Node, N}
+use Rattle.model.specs.Nodes.{N}
 use Rattle.model.specs.Passes.{freeChain}
 use Rattle.model.proofs.Apart.{first, ends-at, Run, Within as Inside}
 use Rattle.model.proofs.Columns.{free-step}
 use Rattle.arena_check.specs.declared.Dims.{Dims}
-use Rattle.arena_check.specs.Sizes.{Within, Shape}
-use Rattle.arena_check.specs.Free.{FreeNode, FreeFrom}
-use Rattle.arena_check.proofs.Formed.{run, Form, Formed}
+use Rattle.arena_check.specs.Sizes.{Shape}
+use Rattle.arena_check.specs.Free.{FreeFrom}
+use Rattle.arena_check.proofs.Formed.{run, Formed}
 use Rattle.arena_check.proofs.Freeing.{free-last}
 use Rattle.arena_check.proofs.Slots.{slots}
 

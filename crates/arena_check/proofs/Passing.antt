@@ -1,5 +1,5 @@
 -- Words are whole exactly when the arena passes, and so the check keeps its promise. Rests on Listing, Freeing, Once and model's Clauses.
-use Prim.Native.Nat.{ℕ, zero, suc, _+_, _*_, _≤_, _<_}
+use Prim.Native.Nat.{ℕ, zero, _+_, _≤_, _<_}
 use mathlib.Core.Path.{_≡_, refl, sym, ap, _∙_, subst}
 use mathlib.Core.Bool.{Bool, true, false}
 use mathlib.Core.List.{List, [], _∷_, _++_}
@@ -9,22 +9,21 @@ use native.Mathlib.Omega.{arith}
 use Rattle.model.specs.Arena.{lastSlot}
 use Rattle.model.specs.Calls.{CheckPromise}
 use Rattle.model.specs.Cells.{cellAt}
-use Rattle.model.specs.Nodes.{Node, N, Sorted, Low}
-use Rattle.model.specs.Passes.{decode, nodes, freeChain, times, timesAll, timesFree, LinkIs, Passes, Clauses, ClausesOf}
-use Rattle.model.proofs.Apart.{Apart, Other, Run, Within as Inside, Runs, Withins, ends-at, total, occAll, each-once}
+use Rattle.model.specs.Nodes.{Node, Sorted, Low}
+use Rattle.model.specs.Passes.{decode, nodes, timesAll, timesFree, LinkIs, Passes, Clauses}
+use Rattle.model.proofs.Apart.{Apart, Run, Within as Inside, Runs, Withins, ends-at, total, each-once}
 use Rattle.model.proofs.Clauses.{clauses-pass, passes-clauses}
 use Rattle.model.proofs.Columns.{nodes-are, lists-are, length-free}
 use Rattle.model.proofs.Counting.{all-slots}
 use Rattle.model.proofs.Records.{placed}
-use Rattle.model.proofs.Tests.{Test, hit, miss, test}
-use Rattle.arena_check.specs.declared.Dims.{Dims}
+use Rattle.model.proofs.Tests.{hit, miss, test}
 use Rattle.arena.specs.Says.{Says}
 use Rattle.arena_check.specs.Answers.{Below}
-use Rattle.arena_check.specs.Sizes.{dimsOf, Within, lengths, Differ}
+use Rattle.arena_check.specs.Sizes.{dimsOf, lengths, Differ}
 use Rattle.arena_check.specs.Free.{AbsentFrom}
-use Rattle.arena_check.specs.Whole.{WholeOf, Whole}
+use Rattle.arena_check.specs.Whole.{Whole}
 use Rattle.arena.proofs.Saying.{yes}
-use Rattle.arena_check.proofs.Formed.{run, run-chain, Form, Formed}
+use Rattle.arena_check.proofs.Formed.{run, run-chain, Form}
 use Rattle.arena_check.proofs.Freeing.{free-chained, free-form, forms-free}
 use Rattle.arena_check.proofs.Listing.{Facts, list-facts, facts-list, formed-chained, formed-low, formed-mid, forms-formed}
 use Rattle.arena_check.proofs.Once.{next, formed-run, formed-inside, free-run, free-inside, free-apart}

@@ -1,19 +1,19 @@
 -- The slots of lists of nodes, as chains of slots: times, ends and totals; and chains told apart by their ends. Rests on model's Apart.
 use Prim.Native.Nat.{ℕ, zero, suc, _+_, _≤_, _<_}
-use mathlib.Core.Path.{_≡_, refl, sym, ap, _∙_}
+use mathlib.Core.Path.{_≡_, refl, ap}
 use mathlib.Core.List.{List, [], _∷_}
 use lib.ListN.{length, getD}
 use native.Mathlib.Omega.{arith}
 use borrow.Author.Tests.{eq-eqb}
 use Rattle.model.specs.Arena.{lastSlot}
-use Rattle.model.specs.Cells.{recordAt, cellAt}
+use Rattle.model.specs.Cells.{recordAt}
 use Rattle.model.specs.Nodes.{Node, N}
 use Rattle.model.specs.Passes.{times, timesAll, timesFree, chain, listsFrom}
 use Rattle.model.proofs.Apart.{ends-at, Run, Runs, Other, Apart, Within as Inside, Withins, occAll, total}
 use Rattle.model.proofs.Columns.{cell-record, length-chain}
 use Rattle.model.proofs.Counting.{total as totalNodes}
 use Rattle.model.proofs.Records.{timesAll-ge}
-use Rattle.model.proofs.Tests.{Same, same, other, same?}
+use Rattle.model.proofs.Tests.{same, other, same?}
 use Rattle.arena_check.specs.Sizes.{lengths}
 
 abbrev pub slots : List Node → List ℕ

@@ -3,7 +3,7 @@ use Prim.Native.Nat.{ℕ, zero, suc, _+_, _-_, _≤_, _<_}
 use mathlib.Core.Path.{_≡_, refl, sym, _∙_, subst}
 use mathlib.Core.Bool.{Bool, true, false}
 use mathlib.Core.List.{List}
-use lib.ListN.{length, getD, replicate, getD-replicate}
+use lib.ListN.{replicate, getD-replicate}
 use native.Mathlib.Numerals.{add-one}
 use native.Mathlib.Omega.{arith}
 use Rattle.model.specs.Cells.{cellAt}
@@ -13,7 +13,7 @@ use Rattle.arena.specs.Says.{Says}
 use Rattle.arena_check.specs.Sizes.{Within, Shape}
 use Rattle.arena_check.specs.Free.{AbsentFrom}
 use Rattle.arena_check.specs.Walked.{Closes, Loose, Owners, NodeOk, Walked, WalkOk, ListOk, filled}
-use Rattle.arena.proofs.Saying.{yes, no, say-yes, say-no}
+use Rattle.arena.proofs.Saying.{yes, no, say-no}
 use Rattle.arena_check.proofs.Levels.{owners-filled}
 
 -- ---- one node ----

@@ -1,5 +1,5 @@
 -- When one walk along a list finds it right: at each level one link is pending, that of the last owner of that level. Rests on Sizes and Free.
-use Prim.Native.Nat.{ℕ, zero, suc, _+_, _*_, _≤_, _<_}
+use Prim.Native.Nat.{ℕ, zero, suc, _+_, _≤_, _<_}
 use mathlib.Core.Path.{_≡_}
 use mathlib.Core.List.{List}
 use lib.ListN.{length, getD, set, replicate}

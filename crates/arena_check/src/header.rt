@@ -1,6 +1,6 @@
 // The header on any words: its numbers, and the counts that the heads add to it.
 ghost use mathlib.Core.Path.{_≡_};
-ghost use Prim.Native.Nat.{_+_, _*_, _≤_};
+ghost use Prim.Native.Nat.{_+_};
 ghost use lib.ListN.{getD};
 ghost use Rattle.model.specs.Arena.{freeWord};
 ghost use Rattle.arena.specs.Says.{Says};

@@ -2,7 +2,6 @@
 // hold the slot and the rank of the last owner that was met at each level.
 ghost use mathlib.Core.Path.{_≡_};
 ghost use Prim.Native.Nat.{_+_, _*_, _≤_, _<_};
-ghost use lib.ListN.{length, getD};
 ghost use Rattle.model.specs.Cells.{cellAt};
 ghost use Rattle.arena.specs.Says.{Says};
 ghost use Rattle.arena_check.specs.Sizes.{Shape};

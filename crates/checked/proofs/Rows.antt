@@ -1,17 +1,17 @@
 -- From the tests of a call to what it keeps: a refusal, an accepted call, a call that only reads. Rests on specs/Kept.
-use Prim.Native.Nat.{ℕ, suc, _+_, _*_, _≤_, _<_}
+use Prim.Native.Nat.{ℕ, _≤_, _<_}
 use mathlib.Core.Path.{_≡_, refl, sym, ap, _∙_}
 use mathlib.Core.Logic.{_≢_}
 use mathlib.Core.Bool.{Bool, true, false, cond}
 use mathlib.Core.List.{List, [], _∷_}
-use lib.Dec.{eqb, leb, ltb}
+use lib.Dec.{eqb, ltb}
 use lib.ListN.{length, getD}
 use native.Mathlib.Omega.{arith}
 use borrow.Author.Tests.{lt-ltb, le-ltb, le-leb, lt-leb, eq-eqb, ne-eqb}
 use Rattle.model.specs.Nodes.{Node}
 use Rattle.model.specs.Arena.{State, encode, listOf}
 use Rattle.model.specs.Passes.{decode, Passes}
-use Rattle.model.specs.Calls.{Call, insertKey, splitAt, Answer, answer, refusal, accepted, refused, allowanceOf, performed, answerTo, resultOf, row3, row4, row7, row8}
+use Rattle.model.specs.Calls.{Call, insertKey, splitAt, Answer, answer, refusal, accepted, performed, answerTo, row3, row4, row7, row8}
 use Rattle.model.proofs.Columns.{length-encode}
 use Rattle.checked.specs.Kept.{Kept}
 

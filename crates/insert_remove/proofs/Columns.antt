@@ -1,5 +1,5 @@
 -- After the links: the columns 3 to 0 of the head a, of slot e before the place and of slot o, then the header, and the whole.
-use Prim.Native.Nat.{ℕ, _-_, _<_}
+use Prim.Native.Nat.{ℕ, _<_}
 use mathlib.Core.Path.{_≡_, refl, sym, ap, _∙_}
 use mathlib.Core.Logic.{_≢_}
 use mathlib.Core.List.{List}

@@ -1,5 +1,5 @@
 -- A removal, which is an insertion turned round, and the loop of `remove_links`. Rests on model's Hang and Inserting, arena's Relink and on Spanning.
-use Prim.Native.Nat.{ℕ, zero, suc, _+_, _-_, _*_, _≤_, _<_}
+use Prim.Native.Nat.{ℕ, zero, suc, _+_, _-_, _≤_, _<_}
 use mathlib.Core.Path.{_≡_, refl, sym, ap, _∙_, subst}
 use mathlib.Core.Logic.{_≢_}
 use mathlib.Core.Bool.{cond}

@@ -1,5 +1,5 @@
 -- Words of a record that lies in the slice, and stores put together: those of one level, and those of the columns 3 to 0.
-use Prim.Native.Nat.{ℕ, _+_, _*_, _-_, _<_}
+use Prim.Native.Nat.{ℕ, _<_}
 use mathlib.Core.Path.{_≡_}
 use mathlib.Core.List.{List}
 use lib.ListN.{length}

@@ -1,6 +1,6 @@
 -- An insertion or a removal at an index: what it asks of words, the model that it leaves, and the words once the links are done.
 -- Rests on model's specs and on arena's Listed and Mix.
-use Prim.Native.Nat.{ℕ, _+_, _*_, _≤_, _<_}
+use Prim.Native.Nat.{ℕ, _+_, _≤_, _<_}
 use mathlib.Core.Path.{_≡_}
 use mathlib.Core.List.{List}
 use lib.ListN.{length, take, drop}

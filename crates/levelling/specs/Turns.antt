@@ -1,5 +1,5 @@
 -- Levelling, node by node: one node's new height, and the path that leads on. Rests on model's specs and on arena's Leads.
-use Prim.Native.Nat.{ℕ, suc, _+_, _<_}
+use Prim.Native.Nat.{ℕ, suc, _<_}
 use mathlib.Core.Path.{_≡_}
 use mathlib.Core.Bool.{cond}
 use mathlib.Core.List.{List, _∷_, _++_}

@@ -1,7 +1,6 @@
 -- Chains that go through node slots only and end at N: what stands at each place of one. Rests on specs/Passes and Columns.
 use Prim.Native.Nat.{ℕ, zero, suc, _+_, _*_, _≤_, _<_}
 use mathlib.Core.Path.{_≡_, refl, sym, ap, _∙_, subst}
-use mathlib.Core.Bool.{cond}
 use mathlib.Core.List.{List, [], _∷_, _++_}
 use lib.ListN.{length, getD, length-append}
 use native.Mathlib.Omega.{arith}
@@ -10,7 +9,7 @@ use Rattle.model.specs.Cells.{cellAt}
 use Rattle.model.specs.Nodes.{Node, node, N}
 use Rattle.model.specs.Passes.{chain, freeChain, times, timesAll, timesFree, after, Chained, Each}
 use Rattle.model.proofs.Columns.{chain-step, free-step, first-chain, first-free}
-use Rattle.model.proofs.Tests.{Same, same, other, same?}
+use Rattle.model.proofs.Tests.{same, other, same?}
 
 -- the words of node y, that ys follow
 pub record Stands (L M C : ℕ) (w : List ℕ) (y : Node) (ys : List Node) : Type 0 where

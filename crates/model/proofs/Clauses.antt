@@ -1,25 +1,24 @@
 -- An arena passes exactly when document 01's clauses hold of it: the two theorems. Rests on Builds, Records, Columns and Chained.
-use Prim.Native.Nat.{ℕ, zero, suc, _+_, _*_, _≤_, _<_}
+use Prim.Native.Nat.{ℕ, suc, _+_, _*_, _≤_, _<_}
 use mathlib.Core.Path.{_≡_, refl, sym, ap, _∙_, subst}
-use mathlib.Core.Bool.{Bool, true, false, cond}
+use mathlib.Core.Bool.{true, false}
 use mathlib.Core.List.{List, [], _∷_, _++_}
 use lib.Dec.{leb}
-use lib.ListN.{length, take, getD}
+use lib.ListN.{length, getD}
 use lib.Seq.{append-snoc}
 use native.Mathlib.Omega.{arith}
 use borrow.Author.Tests.{le-leb, lt-leb}
-use Rattle.model.specs.Arena.{width, toColumn, farColumn, State, headWords, nodeWords, freeWords, firstSlot, firstFree, lastSlot, header, encode, listOf, absent}
+use Rattle.model.specs.Arena.{width, toColumn, farColumn, State, headWords, nodeWords, freeWords, firstSlot, firstFree, encode}
 use Rattle.model.specs.Cells.{recordAt, cellAt}
-use Rattle.model.specs.Links.{target, distance}
-use Rattle.model.specs.Nodes.{Node, node, N, Sorted, Low}
-use Rattle.model.specs.Passes.{decode, nodes, chain, times, timesAll, timesFree, Each, Sound, Sizes, Passes, Ranges, Chained, LinkIs, Absent, Clauses, ClausesOf}
+use Rattle.model.specs.Nodes.{Node, node, Sorted, Low}
+use Rattle.model.specs.Passes.{decode, nodes, times, timesAll, timesFree, Sound, Passes, Chained, Clauses}
 use Rattle.model.proofs.Builds.{Reads-as, words-are}
-use Rattle.model.proofs.Chained.{Stands, StandsFree, stands, stands-free, chain-out, free-out, none-all, each-all, absent-at, chained-none, chained-more}
+use Rattle.model.proofs.Chained.{stands, stands-free, chain-out, free-out, none-all, each-all, absent-at, chained-none, chained-more}
 use Rattle.model.proofs.Columns.{cell-record, length-encode, columns, record-is, front-words, first-chain, first-free, length-chain, length-free, nodes-are, lists-are}
 use Rattle.model.proofs.Keeps.{each-get}
 use Rattle.model.proofs.Owners.{to, far, says-to, says-far}
 use Rattle.model.proofs.Records.{length-links, length-absent, rec-encode, head-words, record-node, record-free, free-slot, placed, times-mid, timesAll-ge}
-use Rattle.model.proofs.Tests.{Test, hit, miss, test}
+use Rattle.model.proofs.Tests.{hit, miss, test}
 
 -- ---- from the clauses ----
 module _ (w : List ℕ) (c : Clauses w) where

@@ -2,14 +2,14 @@
 -- Rests on specs/Cells and specs/Passes.
 use Prim.Native.Nat.{ℕ, zero, suc, _+_, _*_, _≤_, _<_}
 use mathlib.Core.Path.{_≡_, refl, sym, ap, _∙_, subst}
-use mathlib.Core.List.{List, [], _∷_, _++_}
+use mathlib.Core.List.{List, [], _∷_}
 use lib.ListN.{length, take, drop, getD, length-drop, length-append}
 use lib.Seq.{getD-take, getD-drop, ext-getD, length-take-le, drop-cons}
 use native.Mathlib.Nat.{mul-le-mul-right, add-zero}
 use native.Mathlib.Omega.{arith}
 use Rattle.model.specs.Arena.{width, toColumn, farColumn, State, firstSlot, firstFree, recordOf, records, encode}
 use Rattle.model.specs.Cells.{recordAt, cellAt}
-use Rattle.model.specs.Nodes.{Node, node, N}
+use Rattle.model.specs.Nodes.{node, N}
 use Rattle.model.specs.Passes.{chain, freeChain, listsFrom, decode, nodes}
 use Rattle.model.proofs.Records.{length-record}
 

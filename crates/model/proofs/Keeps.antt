@@ -9,11 +9,11 @@ use native.Mathlib.Nat.{not-suc-le-zero}
 use native.Mathlib.Omega.{arith}
 use Rattle.model.specs.Arena.{State, listOf, putList}
 use Rattle.model.specs.Calls.{insertIn, doRemove, doTruncate, doSplit, doAppend, doLevel}
-use Rattle.model.specs.Lists.{insertAt, insert, removeAt, freed, append, levelFrom}
+use Rattle.model.specs.Lists.{insertAt, removeAt, freed, append, levelFrom}
 use Rattle.model.specs.Nodes.{smaller, Node, node, N, Sorted, Low}
 use Rattle.model.specs.Passes.{times, timesAll, timesFree, Each, Sound}
 use Rattle.model.proofs.Levels.{low-levelled, level-levelled}
-use Rattle.model.proofs.Ordering.{times-cut, times-insert, times-self, timesFree-cons, times-freed, low-cut, low-insert, sorted-cut, sorted-remove, sorted-level, times-level}
+use Rattle.model.proofs.Ordering.{times-cut, times-self, timesFree-cons, times-freed, low-cut, sorted-cut, sorted-remove, sorted-level, times-level}
 pub use Rattle.model.proofs.Ordering.{times-append, low-append, sorted-insert, sorted-join, Made, append-made}
 use Rattle.model.proofs.Tests.{same, other, same?}
 

@@ -3,7 +3,6 @@ mod text;
 
 pub use text::Text;
 ghost use Prim.Native.Nat.{_≤_};
-ghost use lib.ListN.{length};
 ghost use Rattle.script.specs.Lines.{Within};
 
 // What has been read of a line: nothing, a name, a space, digits, a comment, or what is no item.

@@ -1,21 +1,19 @@
 -- The loops of set-up, a word and then a record a turn, and the whole from its records and its header. Rests on arena's laws of cells.
-use Prim.Native.Nat.{ℕ, zero, suc, _+_, _-_, _*_, _≤_, _<_}
+use Prim.Native.Nat.{ℕ, _+_, _-_, _*_, _≤_, _<_}
 use mathlib.Core.Path.{_≡_, refl, sym, ap, _∙_, subst}
 use mathlib.Core.Logic.{_≢_}
 use mathlib.Core.Bool.{Bool, true, false}
-use mathlib.Core.List.{List, [], _∷_}
+use mathlib.Core.List.{List, []}
 use lib.Dec.{T}
-use lib.ListN.{length, take, drop, getD, length-replicate}
+use lib.ListN.{length, drop, getD, length-replicate}
 use lib.Seq.{getD-drop}
 use native.Mathlib.Nat.{mul-le-mul-right}
 use native.Mathlib.Omega.{arith}
 use Rattle.model.specs.Nodes.{Node}
-use Rattle.model.specs.Arena.{width, State, recordOf, header, encode, setUp}
+use Rattle.model.specs.Arena.{width, recordOf, header, encode, setUp}
 use Rattle.model.specs.Cells.{cellAt, putAt, Cell}
-use Rattle.model.specs.Passes.{Ranges}
 use Rattle.model.specs.Calls.{Room, SetUpPromise}
-use Rattle.model.proofs.Tests.{Test, hit, miss, test, Same, same, other, same?}
-use Rattle.arena.specs.Mixed.{Mix}
+use Rattle.model.proofs.Tests.{same, other, same?}
 use Rattle.arena.proofs.Cells.{cell-same, cell-other, put-size, mix-end}
 use Rattle.arena.specs.Says.{Says}
 use Rattle.setup.specs.Bare.{bareWords, Inside, Written, Filled, HeaderSet}

@@ -3,13 +3,13 @@ use Prim.Native.Nat.{ℕ, zero, suc, _+_, _-_, _*_, _%_, _≤_, _<_}
 use mathlib.Core.Path.{_≡_, refl, sym, ap, _∙_}
 use mathlib.Core.Bool.{cond}
 use mathlib.Core.List.{List, [], _∷_}
-use lib.Dec.{ltb, eqb}
+use lib.Dec.{eqb}
 use lib.ListN.{length, getD, set, replicate, length-replicate}
 use native.Mathlib.Omega.{arith}
-use borrow.Author.Tests.{lt-ltb, le-ltb, eq-eqb, ne-eqb}
+use borrow.Author.Tests.{lt-ltb, le-ltb, ne-eqb}
 use Rattle.model.specs.Nodes.{Node, N}
-use Rattle.model.specs.Arena.{width, State, nodeLinks, absent, firstFree, freeWords, inLists, inFree, recordOf, upFrom, setUp, mark, version, header}
-use Rattle.model.proofs.Tests.{Test, hit, miss, test, Same, same, other, same?}
+use Rattle.model.specs.Arena.{width, nodeLinks, absent, firstFree, freeWords, inLists, inFree, recordOf, upFrom, setUp, mark, version, header}
+use Rattle.model.proofs.Tests.{hit, miss, test, same, other, same?}
 use Rattle.setup.specs.Bare.{bareWords, bareWord, HeaderSet}
 
 absent-at : (M j : ℕ) → j < 2 * M → getD (absent M) j 0 ≡ cond (eqb (j % 2) 0) N 0

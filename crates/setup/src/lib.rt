@@ -1,9 +1,8 @@
 // Set-up (module 2 of document 01): all lists empty, the free slots chained upwards from L.
 ghost use mathlib.Core.Path.{_≡_};
 ghost use Prim.Native.Nat.{_+_, _-_, _*_, _≤_, _<_};
-ghost use lib.ListN.{length, take};
-ghost use Rattle.model.specs.Arena.{headerWords, width, header, encode, setUp, recordOf};
-ghost use Rattle.model.specs.Passes.{Ranges};
+ghost use lib.ListN.{length};
+ghost use Rattle.model.specs.Arena.{headerWords, width, header, setUp, recordOf};
 ghost use Rattle.model.specs.Calls.{Room, SetUpPromise};
 ghost use Rattle.arena.specs.Says.{Says};
 ghost use Rattle.setup.specs.Bare.{bareWord, bareWords, Inside, Written, Filled, HeaderSet, numberOf};

@@ -7,8 +7,8 @@ use native.Mathlib.Omega.{arith}
 use Rattle.model.specs.Nodes.{smallerKeys}
 use Rattle.model.specs.Passes.{Passes, decode, nodes}
 use Rattle.model.specs.Gaps.{Levelled, gap}
-use Rattle.model.specs.Calls.{Answer, search as asked, refusal, accepted, answerTo, Promise}
-use Rattle.model.proofs.Tests.{Same, same, other, same?}
+use Rattle.model.specs.Calls.{Answer, search as asked, refusal, Promise}
+use Rattle.model.proofs.Tests.{same, other, same?}
 use Rattle.model.proofs.Keeps.{sorted-list, low-list}
 use Rattle.model.proofs.Limits.{comparisons, within-rank as by-rank, within-gap as by-gap, within-levelled as by-levelled}
 

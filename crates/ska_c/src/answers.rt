@@ -1,8 +1,7 @@
 // Answers as the numbers that C gets.
 ghost use mathlib.Core.Path.{_≡_};
-ghost use mathlib.Core.Bool.{Bool};
 ghost use Rattle.model.specs.Calls.{answer};
-ghost use Rattle.checked.specs.Answers.{searchTold, keyTold, plainTold, numberOf};
+ghost use Rattle.checked.specs.Answers.{searchTold, keyTold, plainTold};
 ghost use Rattle.setup.specs.Bare.{numberOf as setupNumber};
 ghost use Rattle.link.specs.Distances.{told};
 ghost use Rattle.ska_c.specs.Flags.{yes, distanceTold};

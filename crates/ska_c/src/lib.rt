@@ -3,7 +3,6 @@ mod answers;
 mod keys;
 mod links;
 
-ghost use mathlib.Core.Path.{_≡_};
 ghost use Rattle.model.specs.Calls.{insertKey, truncate, clear, splitAt, splitKey, appendList, level, answer, Promise, CheckPromise, SetUpPromise};
 ghost use Rattle.ska_c.specs.Flags.{yes};
 use arena::Index;

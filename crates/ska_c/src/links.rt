@@ -1,6 +1,6 @@
 // The link calls, which have no arena.
 ghost use mathlib.Core.Path.{_≡_};
-ghost use Rattle.link.specs.Distances.{Told, made, raised, lowered};
+ghost use Rattle.link.specs.Distances.{made, raised, lowered};
 ghost use Rattle.ska_c.specs.Flags.{distanceTold};
 use super::answers;
 

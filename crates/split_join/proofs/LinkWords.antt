@@ -1,6 +1,6 @@
 -- The two words of a link: what the head's link of a list that is hung behind another says, while its level is as it was, and what one turn of a
 -- relinking loop stores at two owners. Rests on arena's Relink, model's Owners and spans' Distances.
-use Prim.Native.Nat.{ℕ, zero, suc, _+_, _-_, _*_, _≤_, _<_}
+use Prim.Native.Nat.{ℕ, zero, suc, _+_, _-_, _≤_, _<_}
 use mathlib.Core.Path.{_≡_, refl, ap, _∙_}
 use mathlib.Core.Logic.{_≢_}
 use mathlib.Core.Bool.{cond}

@@ -1,5 +1,5 @@
 -- A merge, node by node: the first of b is removed and inserted in a, and what is left to merge leads to the same. Rests on model's Composing.
-use Prim.Native.Nat.{ℕ, _-_, _≤_, _<_}
+use Prim.Native.Nat.{ℕ, _≤_, _<_}
 use mathlib.Core.Path.{_≡_, refl, sym, ap, ap₂, _∙_}
 use mathlib.Core.List.{List, [], _∷_}
 use lib.ListN.{length, drop, set, length-set}

@@ -1,5 +1,5 @@
 -- The list ends at its n-th node: the loop of `end_links`, then the columns 3, 2 and 0. Rests on Shortened, Between and arena's Cells.
-use Prim.Native.Nat.{ℕ, suc, _+_, _*_, _≤_, _<_}
+use Prim.Native.Nat.{ℕ, suc, _+_, _≤_, _<_}
 use mathlib.Core.Path.{_≡_, refl, sym, ap, _∙_, subst}
 use mathlib.Core.Bool.{cond}
 use mathlib.Core.List.{List, [], append-nil}

@@ -1,5 +1,5 @@
 -- A truncation: what it asks of words, the words once the links are done, and one record cleared. Rests on model's specs and on arena's Listed and Mix.
-use Prim.Native.Nat.{ℕ, _+_, _*_, _≤_, _<_}
+use Prim.Native.Nat.{ℕ, _+_, _≤_, _<_}
 use mathlib.Core.Path.{_≡_}
 use mathlib.Core.Logic.{_≢_}
 use mathlib.Core.Bool.{cond}
@@ -12,7 +12,6 @@ use Rattle.model.specs.Calls.{doTruncate}
 use Rattle.model.specs.Cells.{place, cellAt}
 use Rattle.model.specs.Passes.{decode, nodes, times, Absent}
 use Rattle.arena.specs.Mixed.{Mix}
-use Rattle.arena.specs.Owners.{Listed}
 
 -- The records while the nodes `ys` are still to be freed: theirs are as in S, all others as in T.
 unfoldable pub between : State → State → List Node → ℕ → List ℕ

@@ -1,5 +1,5 @@
 -- Where a walk stands in words that pass, and where it stops. Rests on model's specs and on arena's `Owner`.
-use Prim.Native.Nat.{ℕ, _+_, _*_, _≤_}
+use Prim.Native.Nat.{ℕ, _≤_}
 use mathlib.Core.Path.{_≡_}
 use mathlib.Core.List.{List}
 use lib.ListN.{length, take}

@@ -1,7 +1,6 @@
 -- `arena::place` meets its contract.
 -- A slot is a u32 and a record has at most 36 words, so the product fits a usize.
 use Prim.Native.Nat.{_≤_}
-use mathlib.Core.Path.{ap}
 use native.Mathlib.Nat.{mul-le-mul-left}
 use native.Mathlib.Omega.{arith}
 use Rattle.model.specs.Arena.{width}

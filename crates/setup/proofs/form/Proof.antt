@@ -1,5 +1,4 @@
 -- `setup::form` meets its contract: a head's record, the last free slot's, and any other free slot's.
-use native.Mathlib.Omega.{arith}
 use borrow.Author.Needs.{needs}
 use Rattle.setup.proofs.New.{head-form, last-form, next-form}
 use Rattle.setup.proofs.form.Statement.{statement}

@@ -1,6 +1,5 @@
 -- `setup::set_up` meets its contract: a slice that fits is filled record by record, then its header; any other is left alone.
 use native.Mathlib.Omega.{arith}
-use Rattle.model.specs.Calls.{Room}
 use Rattle.setup.proofs.Filling.{said, new-arena, accepted, refused}
 use borrow.Author.Needs.{needs}
 use Rattle.setup.proofs.set_up.Statement.{statement}

@@ -1,5 +1,5 @@
 -- `trimming::end_links` meets its contract: after l turns the links of the levels below l are those of the shortened list.
-use Prim.Native.Nat.{ℕ, _+_, _*_, _-_, _≤_}
+use Prim.Native.Nat.{ℕ, _-_, _≤_}
 use mathlib.Core.List.{List}
 use native.Mathlib.Omega.{arith}
 use Rattle.model.specs.Arena.{toColumn}

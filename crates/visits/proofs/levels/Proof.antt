@@ -1,5 +1,5 @@
 -- `visits::levels` meets its contract: the words are those of their model, which has a list.
-use mathlib.Core.Path.{refl, ap, _∙_}
+use mathlib.Core.Path.{ap, _∙_}
 use native.Mathlib.Omega.{arith}
 use borrow.Author.Needs.{needs}
 use Rattle.model.specs.Passes.{decode}

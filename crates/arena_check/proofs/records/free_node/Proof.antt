@@ -1,6 +1,5 @@
 -- `arena_check::records::free_node` meets its contract: one test for each word of the record.
 use borrow.Author.Needs.{needs}
-use Rattle.arena.proofs.Saying.{yes, no, say-no}
 use Rattle.arena_check.proofs.Free.{free-within, free-no-within, free-no-zero, free-no-mark, free-no-last, free-node}
 use Rattle.arena_check.proofs.records.free_node.Statement.{statement}
 use Rattle.arena_check.proofs.records.free_node.Tie as tie

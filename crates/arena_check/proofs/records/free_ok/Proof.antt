@@ -1,6 +1,5 @@
 -- `arena_check::records::free_ok` meets its contract. The loop's invariant: the free chain is right exactly when what is left of it is.
 use borrow.Author.Needs.{needs}
-use Rattle.arena.proofs.Saying.{yes}
 use Rattle.arena_check.proofs.Free.{FreeAt, free-start, free-next, free-no-node, free-no-end, free-done, free-below}
 use Rattle.arena_check.proofs.records.free_ok.Statement.{statement}
 use Rattle.arena_check.proofs.records.free_ok.Tie as tie

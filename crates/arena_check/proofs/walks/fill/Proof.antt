@@ -1,6 +1,5 @@
 -- `arena_check::walks::fill` meets its contract. The loop's invariant: the levels passed have the value.
 use Prim.Native.Nat.{_-_}
-use native.Mathlib.Omega.{arith}
 use borrow.Author.Needs.{needs}
 use Rattle.arena_check.proofs.Levels.{Filling, fill-none, fill-more, fill-all}
 use Rattle.arena_check.proofs.walks.fill.Statement.{statement}

@@ -1,6 +1,5 @@
 -- `arena_check::walks::walk_ok` meets its contract. The loop's invariant: the list is right exactly when what is left of it is.
-use mathlib.Core.Path.{_∙_, sym}
-use native.Mathlib.Omega.{arith}
+use mathlib.Core.Path.{_∙_}
 use borrow.Author.Needs.{needs}
 use Rattle.arena_check.proofs.Walking.{WalkAt, node-below, node-height, walk-start, walk-next, walk-no-node, walk-no-end, walk-no-last, walk-done}
 use Rattle.arena_check.proofs.walks.walk_ok.Statement.{statement}

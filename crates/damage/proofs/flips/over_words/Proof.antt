@@ -1,6 +1,5 @@
 -- `damage::flips::over_words` is safe. The loop's invariant: at most 32 flips of each word passed.
 use Prim.Native.Nat.{_≤_, _*_, _-_}
-use native.Mathlib.Omega.{arith}
 use borrow.Author.Needs.{needs}
 use Rattle.damage.proofs.flips.over_words.Statement.{statement}
 use Rattle.damage.proofs.flips.over_words.Tie as tie
