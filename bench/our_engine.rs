@@ -3,29 +3,10 @@
 
 use crate::{Call, Engine, LEVELS, NODES};
 
-unsafe extern "C" {
-    fn ska_set_up(w: *mut u32, n: usize, lists: u32, levels: u32, nodes: u32) -> u32;
-    fn ska_check(w: *const u32, n: usize) -> u32;
-    fn ska_search(
-        w: *const u32,
-        n: usize,
-        list: u32,
-        key: u32,
-        allowance: u32,
-        found: *mut u32,
-        place: *mut u32,
-        tally: *mut u32,
-    ) -> u32;
-    fn ska_read(w: *const u32, n: usize, list: u32, index: u32, key: *mut u32) -> u32;
-    fn ska_insert(w: *mut u32, n: usize, list: u32, key: u32, height: u32) -> u32;
-    fn ska_remove_key(w: *mut u32, n: usize, list: u32, key: u32, removed: *mut u32) -> u32;
-    fn ska_remove_at(w: *mut u32, n: usize, list: u32, index: u32, removed: *mut u32) -> u32;
-    fn ska_truncate(w: *mut u32, n: usize, list: u32, count: u32) -> u32;
-    fn ska_split_at(w: *mut u32, n: usize, from: u32, to: u32, index: u32) -> u32;
-    fn ska_split_key(w: *mut u32, n: usize, from: u32, to: u32, key: u32) -> u32;
-    fn ska_append(w: *mut u32, n: usize, a: u32, b: u32) -> u32;
-    fn ska_level(w: *mut u32, n: usize, list: u32) -> u32;
+#[path = "../examples/rust/raw.rs"]
+mod raw;
 
+unsafe extern "C" {
     fn core_search(w: *const u32, n: usize, m: usize, list: u32, key: u32, allowance: u32) -> u32;
     fn core_read(w: *const u32, n: usize, m: usize, list: u32, index: u32) -> u32;
     fn core_insert(w: *mut u32, n: usize, m: usize, list: u32, key: u32, height: u32);
@@ -47,12 +28,12 @@ impl Engine for Public {
         let (p, n) = (w.as_mut_ptr(), w.len());
         // SAFETY: `p` and `n` are the whole of `w`, as in every call below; out-parameters are local variables.
         unsafe {
-            assert_eq!(ska_set_up(p, n, 2, LEVELS, NODES), 0);
+            assert_eq!(raw::ska_set_up(p, n, 2, LEVELS, NODES), 0);
             for (list, keys) in [(0, a), (1, b)] {
                 for &key in keys {
-                    assert_eq!(ska_insert(p, n, list, key, 0), 0);
+                    assert_eq!(raw::ska_insert(p, n, list, key, 0), 0);
                 }
-                assert_eq!(ska_level(p, n, list), 0);
+                assert_eq!(raw::ska_level(p, n, list), 0);
             }
         }
         Self(w)
@@ -68,18 +49,18 @@ impl Engine for Public {
         unsafe {
             match call {
                 Call::Search { key } => {
-                    ska_search(w, n, 0, key, u32::MAX, &mut found, &mut value, &mut tally);
+                    raw::ska_search(w, n, 0, key, u32::MAX, &mut found, &mut value, &mut tally);
                     (found, if found == 1 { value } else { 0 })
                 }
-                Call::Read { index } => (ska_read(w, n, 0, index, &mut value), value),
-                Call::Insert { key, height } => (ska_insert(w, n, 0, key, height), 0),
-                Call::RemoveKey { key } => (ska_remove_key(w, n, 0, key, &mut value), value),
-                Call::RemoveAt { index } => (ska_remove_at(w, n, 0, index, &mut value), value),
-                Call::Truncate { length } => (ska_truncate(w, n, 0, length), 0),
-                Call::SplitAt { index } => (ska_split_at(w, n, 0, 1, index), 0),
-                Call::SplitKey { key } => (ska_split_key(w, n, 0, 1, key), 0),
-                Call::Append => (ska_append(w, n, 0, 1), 0),
-                Call::Check => (1 - ska_check(w, n), 0),
+                Call::Read { index } => (raw::ska_read(w, n, 0, index, &mut value), value),
+                Call::Insert { key, height } => (raw::ska_insert(w, n, 0, key, height), 0),
+                Call::RemoveKey { key } => (raw::ska_remove_key(w, n, 0, key, &mut value), value),
+                Call::RemoveAt { index } => (raw::ska_remove_at(w, n, 0, index, &mut value), value),
+                Call::Truncate { length } => (raw::ska_truncate(w, n, 0, length), 0),
+                Call::SplitAt { index } => (raw::ska_split_at(w, n, 0, 1, index), 0),
+                Call::SplitKey { key } => (raw::ska_split_key(w, n, 0, 1, key), 0),
+                Call::Append => (raw::ska_append(w, n, 0, 1), 0),
+                Call::Check => (1 - raw::ska_check(w, n), 0),
             }
         }
     }
@@ -89,7 +70,7 @@ impl Engine for Public {
         let read = |index| {
             let mut key = 0;
             // SAFETY: as in `new`.
-            (unsafe { ska_read(w, n, list, index, &mut key) } == 0).then_some(key)
+            (unsafe { raw::ska_read(w, n, list, index, &mut key) } == 0).then_some(key)
         };
         (0..).map_while(read).collect()
     }

@@ -1,12 +1,42 @@
-// Module 2 of document 01: slots, ranks and indexes, and the words of an arena by slot and column.
+// Module 2 of document 01: slots, ranks and indexes, and the words of an arena.
 ghost use mathlib.Core.Path.{_≡_};
-ghost use mathlib.Core.Bool.{cond};
-ghost use Prim.Native.Nat.{_+_, _*_, _≤_, _<_};
-ghost use lib.Dec.{eqb};
-ghost use lib.ListN.{length, getD, set};
-ghost use Rattle.model.specs.Nodes.{N};
-ghost use Rattle.model.specs.Cells.{place, Cell, cellAt, putAt};
-ghost use Rattle.model.specs.Arena.{headerWords, width};
+ghost use Prim.Native.Nat.{_+_, _<_};
+
+mod layout;
+mod words;
+
+pub use layout::COUNT;
+pub use layout::FAR;
+pub use layout::FIRST_FREE_WORD;
+pub use layout::FREE_WORD;
+pub use layout::HEADER;
+pub use layout::HEIGHT;
+pub use layout::KEY;
+pub use layout::LAST;
+pub use layout::LEVELS_WORD;
+pub use layout::LINK;
+pub use layout::LISTS_WORD;
+pub use layout::MARK;
+pub use layout::MARK_WORD;
+pub use layout::NEXT;
+pub use layout::ROOM_WORD;
+pub use layout::STAGE_FAR;
+pub use layout::STAGE_TO;
+pub use layout::TO;
+pub use layout::VERSION;
+pub use layout::VERSION_WORD;
+pub use layout::ZERO_WORD;
+pub use layout::fits;
+pub use layout::place;
+pub use layout::size;
+pub use layout::width;
+pub use words::cell;
+pub use words::header;
+pub use words::last_word;
+pub use words::put;
+pub use words::put_header;
+pub use words::put2;
+pub use words::word;
 
 // The number of a record; lists are named by their heads' slots, 0 to L - 1.
 pub struct Slot(pub u32);
@@ -70,51 +100,6 @@ impl Rank {
     }
 }
 
-// The header's words (model's `listsWord` and so on), and how many there are.
-pub const MARK_WORD: usize = 0;
-
-pub const VERSION_WORD: usize = 1;
-
-pub const LISTS_WORD: usize = 2;
-
-pub const LEVELS_WORD: usize = 3;
-
-pub const ROOM_WORD: usize = 4;
-
-pub const FIRST_FREE_WORD: usize = 5;
-
-pub const FREE_WORD: usize = 6;
-
-pub const ZERO_WORD: usize = 7;
-
-pub const HEADER: usize = 8;
-
-pub const MARK: u32 = 4279123;
-
-pub const VERSION: u32 = 1;
-
-// A record's columns (model's `keyColumn` and so on); the link of level l has its target in TO + LINK * l and its distance in FAR + LINK * l.
-pub const COUNT: usize = 0;
-
-pub const KEY: usize = 0;
-
-pub const HEIGHT: usize = 1;
-
-pub const NEXT: usize = 2;
-
-pub const LAST: usize = 3;
-
-pub const TO: usize = 4;
-
-pub const FAR: usize = 5;
-
-pub const LINK: usize = 2;
-
-// The same by stage, which is the level and one: STAGE_TO + LINK * (l + 1) is TO + LINK * l.
-pub const STAGE_TO: usize = TO - LINK;
-
-pub const STAGE_FAR: usize = FAR - LINK;
-
 pub fn wide(x: u32) -> usize
     ensures { λ r. ⌜ r ≡ x ⌝ }
 {
@@ -126,85 +111,4 @@ pub fn narrow(x: usize) -> u32
     ensures { λ r. ⌜ r ≡ x ⌝ }
 {
     x as u32
-}
-
-// The number of words of a record, in an arena of m levels.
-pub fn width(m: usize) -> usize
-    requires { ⌜ m ≤ 16 ⌝ }
-    ensures { λ r. ⌜ r ≡ width m ⌝ }
-{
-    TO + LINK * m
-}
-
-// Where the record of slot s begins.
-pub fn place(m: usize, s: Slot) -> usize
-    requires { ⌜ m ≤ 16 ⌝ }
-    ensures { λ r. ⌜ r ≡ place m (s .0) ⌝ }
-{
-    HEADER + wide(s.0) * width(m)
-}
-
-pub fn word(w: &[u32], at: usize) -> u32
-    requires { ⌜ at < length (now w) ⌝ }
-    ensures { λ r. ⌜ r ≡ getD (now (w .entry)) at 0 ⌝ }
-{
-    w[at]
-}
-
-// The word in column c of slot s.
-pub fn cell(w: &[u32], m: usize, s: Slot, c: usize) -> u32
-    requires { ⌜ Cell (now w) m (s .0) c ⌝ }
-    ensures { λ r. ⌜ r ≡ cellAt m (now (w .entry)) (s .0) c ⌝ }
-{
-    w[place(m, s) + c]
-}
-
-pub fn put(w: &mut [u32], m: usize, s: Slot, c: usize, v: u32)
-    requires { ⌜ Cell (now w) m (s .0) c ⌝ }
-    ensures { λ _. ⌜ now (w .exit) ≡ putAt m (now (w .entry)) (s .0) c v ⌝ }
-{
-    let at = place(m, s) + c;
-    w[at] = v;
-}
-
-// Two words of one column.
-pub fn put2(w: &mut [u32], m: usize, c: usize, x: Slot, v: u32, y: Slot, u: u32)
-    requires { ⌜ Cell (now w) m (x .0) c × Cell (now w) m (y .0) c ⌝ }
-    ensures { λ _. ⌜ now (w .exit) ≡ putAt m (putAt m (now (w .entry)) (x .0) c v) (y .0) c u ⌝ }
-{
-    put(w, m, x, c, v);
-    put(w, m, y, c, u);
-}
-
-// The word for the last node of a list of n nodes, of which `slot` is the last if there is one.
-pub fn last_word(n: u32, slot: u32) -> u32
-    ensures { λ r. ⌜ r ≡ cond (eqb n 0) N slot ⌝ }
-{
-    if n == 0 {
-        return Slot::NONE.0;
-    }
-    slot
-}
-
-// Word i of the header.
-pub fn header(w: &[u32], i: usize) -> u32
-    requires { ⌜ (i < headerWords) × (headerWords ≤ length (now w)) ⌝ }
-    ensures { λ r. ⌜ r ≡ getD (now (w .entry)) i 0 ⌝ }
-{
-    w[i]
-}
-
-pub fn put_header(w: &mut [u32], i: usize, v: u32)
-    requires { ⌜ (i < headerWords) × (headerWords ≤ length (now w)) ⌝ }
-    ensures { λ _. ⌜ now (w .exit) ≡ set (now (w .entry)) i v ⌝ }
-{
-    w[i] = v;
-}
-
-// The length of an arena of l lists, m levels and c nodes.
-pub fn size(l: u32, m: u32, c: u32) -> usize
-    requires { ⌜ (l ≤ 16) × (m ≤ 16) × (c ≤ 65535) ⌝ }
-    ensures { λ r. ⌜ r ≡ headerWords + (l + c) * width m ⌝ }
-{
-    HEADER + wide(l + c) * width(wide(m))
 }

@@ -22,34 +22,13 @@ pub fn header_ok(w: &[u32]) -> bool
     if w[arena::VERSION_WORD] != arena::VERSION {
         return false;
     }
-    let l = w[arena::LISTS_WORD];
-    let m = w[arena::LEVELS_WORD];
-    let c = w[arena::ROOM_WORD];
-    if l < 1 {
-        return false;
-    }
-    if l > 16 {
-        return false;
-    }
-    if m < 1 {
-        return false;
-    }
-    if m > 16 {
-        return false;
-    }
-    if c < 1 {
-        return false;
-    }
-    if c > 65535 {
-        return false;
-    }
     if w[arena::ZERO_WORD] != 0 {
         return false;
     }
-    if w.len() != arena::size(l, m, c) {
-        return false;
-    }
-    true
+    let l = w[arena::LISTS_WORD];
+    let m = w[arena::LEVELS_WORD];
+    let c = w[arena::ROOM_WORD];
+    arena::fits(l, m, c, w.len())
 }
 
 // The numbers that the header says.

@@ -3,8 +3,7 @@ ghost use mathlib.Core.Path.{_≡_};
 ghost use Prim.Native.Nat.{_+_, _-_, _*_, _≤_, _<_};
 ghost use lib.ListN.{length};
 ghost use Rattle.model.specs.Arena.{headerWords, width, header, setUp, recordOf};
-ghost use Rattle.model.specs.Calls.{Room, SetUpPromise};
-ghost use Rattle.arena.specs.Says.{Says};
+ghost use Rattle.model.specs.Calls.{SetUpPromise};
 ghost use Rattle.setup.specs.Bare.{bareWord, bareWords, Inside, Written, Filled, HeaderSet, numberOf};
 use arena::Slot;
 
@@ -47,8 +46,9 @@ fn write_record(w: &mut [u32], m: usize, s: Slot, f: Bare)
     requires { ⌜ Inside (now w) m (s .0) ⌝ }
     ensures { λ _. ⌜ Written m (now (w .entry)) (s .0) (bareWords m (f .a) (f .b) (f .e) (f .d)) (now (w .exit)) ⌝ }
 {
+    let words = arena::width(m);
     let mut c: usize = 0;
-    while c < arena::TO + arena::LINK * m {
+    while c < words {
         arena::put(w, m, s, c, bare_word(c, f));
         c += 1;
     }
@@ -111,38 +111,10 @@ fn write_header(w: &mut [u32], l: u32, m: u32, c: u32)
     w[arena::ZERO_WORD] = 0;
 }
 
-// Whether L, M, C and the slice's length are right; the ranges come before any product.
-fn fits(l: u32, m: u32, c: u32, n: usize) -> bool
-    ensures { λ r. ⌜ Says r (Room l m c n) ⌝ }
-{
-    if l < 1 {
-        return false;
-    }
-    if l > 16 {
-        return false;
-    }
-    if m < 1 {
-        return false;
-    }
-    if m > 16 {
-        return false;
-    }
-    if c < 1 {
-        return false;
-    }
-    if c > 65535 {
-        return false;
-    }
-    if n != arena::size(l, m, c) {
-        return false;
-    }
-    true
-}
-
 pub fn set_up(w: &mut [u32], l: u32, m: u32, c: u32) -> Setup
     ensures { λ r. ⌜ SetUpPromise l m c (now (w .entry)) (now (w .exit)) (numberOf r) ⌝ }
 {
-    if fits(l, m, c, w.len()) {
+    if arena::fits(l, m, c, w.len()) {
         write_records(w, l, m, l + c);
         write_header(w, l, m, c);
         return Setup::Done;

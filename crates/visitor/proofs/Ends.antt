@@ -8,7 +8,7 @@ use lib.ListN.{length, drop}
 use native.Mathlib.Omega.{arith}
 use borrow.Author.Tests.{le-leb, lt-leb, lt-ltb}
 use Rattle.model.specs.Nodes.{Node, slotAt, smaller}
-use Rattle.model.specs.Walks.{stand, End, found, missing, ended, keyWalk, ends, tally, keyIs}
+use Rattle.model.specs.Walks.{stand, End, found, missing, ended, isFound, keyWalk, ends, tally, keyIs}
 use Rattle.model.specs.Arena.{State, listOf}
 use Rattle.model.specs.Calls.{search, Answer, answer, answerTo}
 use Rattle.model.specs.Passes.{decode, nodes}
@@ -121,27 +121,21 @@ slot x = record { 0 = x }
 abbrev rank-of : ℕ → Rank
 rank-of x = record { 0 = x }
 
+-- what the walk that has ended holds, once the slot at its rank is reached
+pub ended-there : (w : List ℕ) (v : OrdIndexVisitor) (s : Slot) (r : Rank) (n : ℕ) (met : Bool) → s .0 ≡ slotAt (v .current .0) (nodes w (v .current .0)) (r .0)
+    → record { current = s; rank = r; target = v .target; left = v .left - n; found = met; over = false } ≡ keyEnd w v (stand (r .0) n) met
+ended-there w v s r n met q = let z : s ≡ slot (slotAt (v .current .0) (nodes w (v .current .0)) (r .0)) = ap slot q in rw z refl
+
 module _ (w : List ℕ) (m : ℕ) (v : OrdIndexVisitor) where
   abbrev ys : List Node
   ys = nodes w (v .current .0)
 
   abbrev by-end : End → OrdIndexVisitor
-  by-end e = cond (leb (ended e .tally) (v .left)) (keyEnd (v .current .0) ys v e) (keyOver v)
+  by-end e = cond (leb (ended e .tally) (v .left)) (keyEnd w v (ended e) (isFound e)) (keyOver v)
 
-  abbrev standing : Slot → Rank → ℕ → Bool → OrdIndexVisitor
-  standing s r n met = record { current = s; rank = r; target = v .target; left = v .left - n; found = met; over = false }
-
-  pub visit-ends : (met : Bool) (i n : ℕ) → Ends m (v .target) (v .left) ys met i n → (s : Slot) (r : Rank) → r .0 ≡ cond met (suc i) i → s .0 ≡ slotAt (v .current .0) ys (r .0)
-      → standing s r n met ≡ keyVisit w m v
-  visit-ends met i n e s r p q =
-      let y : r ≡ rank-of (cond met (suc i) i) = ap rank-of p in
-      let z : s ≡ slot (slotAt (v .current .0) ys (cond met (suc i) i)) = ap slot (q ∙ ap (slotAt (v .current .0) ys) p) in
-      rw (y, z) (by-case met (e .walk))
-    where
-      by-case : (b : Bool) → keyWalk m (v .target) ys ≡ cond b (found (stand (suc i) n)) (missing (stand i n))
-          → standing (slot (slotAt (v .current .0) ys (cond b (suc i) i))) (rank-of (cond b (suc i) i)) n b ≡ keyVisit w m v
-      by-case true f = sym (ap by-end f ∙ (rw (le-leb n (v .left) (e .within)) refl))
-      by-case false f = sym (ap by-end f ∙ (rw (le-leb n (v .left) (e .within)) refl))
+  pub visit-ends : (met : Bool) {i n r : ℕ} {x : OrdIndexVisitor} → Ends m (v .target) (v .left) ys met i n → r ≡ cond met (suc i) i → x ≡ keyEnd w v (stand r n) met → x ≡ keyVisit w m v
+  visit-ends true {n} e p q = (rw p at q) ∙ sym (ap by-end (e .walk) ∙ (rw (le-leb n (v .left) (e .within)) refl))
+  visit-ends false {n} e p q = (rw p at q) ∙ sym (ap by-end (e .walk) ∙ (rw (le-leb n (v .left) (e .within)) refl))
 
   pub visit-over : v .left < ended (keyWalk m (v .target) ys) .tally → keyOver v ≡ keyVisit w m v
   visit-over l = rw (lt-leb (ended (keyWalk m (v .target) ys) .tally) (v .left) l) refl

@@ -1,24 +1,24 @@
 -- What a visitor holds after its walk, by the walks of document 01. Rests on model's specs.
 use Prim.Native.Nat.{ℕ, _-_}
-use mathlib.Core.Bool.{true, false, cond}
+use mathlib.Core.Bool.{Bool, true, false, cond}
 use mathlib.Core.List.{List}
 use mathlib.Core.Option.{Option, none, some}
 use lib.Dec.{leb}
 use lib.ListN.{length}
 use Rattle.model.specs.Nodes.{Node, slotAt}
-use Rattle.model.specs.Walks.{End, ended, isFound, keyWalk, rankWalk}
+use Rattle.model.specs.Walks.{Stand, ended, isFound, keyWalk, rankWalk}
 use Rattle.model.specs.Passes.{nodes}
 use Rattle.visitor.specs.declared.ord_index.OrdIndexVisitor.{OrdIndexVisitor}
 use Rattle.visitor.specs.declared.index.IndexVisitor.{IndexVisitor}
 
--- The walk by key of list a has ended: the visitor stands where it ends, with what its tally leaves of the comparisons.
-abbrev pub keyEnd : ℕ → List Node → OrdIndexVisitor → End → OrdIndexVisitor
-keyEnd a xs v e = record {
-  current = record { 0 = slotAt a xs (ended e .rank) };
-  rank = record { 0 = ended e .rank };
+-- The walk by key has ended at s; `met` says whether the key is there. The visitor stands there, with what the tally leaves of the comparisons.
+abbrev pub keyEnd : List ℕ → OrdIndexVisitor → Stand → Bool → OrdIndexVisitor
+keyEnd w v s met = record {
+  current = record { 0 = slotAt (v .current .0) (nodes w (v .current .0)) (s .rank) };
+  rank = record { 0 = s .rank };
   target = v .target;
-  left = v .left - ended e .tally;
-  found = isFound e;
+  left = v .left - s .tally;
+  found = met;
   over = false;
 }
 
@@ -29,9 +29,8 @@ keyOver v = record { current = v .current; rank = record { 0 = 0 }; target = v .
 -- "A tally equal to it is accepted."
 abbrev pub keyVisit : List ℕ → ℕ → OrdIndexVisitor → OrdIndexVisitor
 keyVisit w m v =
-    let a = v .current .0 in
-    let e = keyWalk m (v .target) (nodes w a) in
-    cond (leb (ended e .tally) (v .left)) (keyEnd a (nodes w a) v e) (keyOver v)
+    let e = keyWalk m (v .target) (nodes w (v .current .0)) in
+    cond (leb (ended e .tally) (v .left)) (keyEnd w v (ended e) (isFound e)) (keyOver v)
 
 -- The walk by rank of list a has ended. "Above the length it ends with none": the visitor is then at the last node.
 abbrev pub rankEnd : ℕ → List Node → IndexVisitor → Option ℕ → IndexVisitor

@@ -1,8 +1,12 @@
 // The walk by key.
 ghost use mathlib.Core.Path.{_≡_};
 ghost use mathlib.Core.Bool.{false};
+ghost use Prim.Native.Nat.{_≤_};
+ghost use lib.ListN.{length};
+ghost use Rattle.model.specs.Passes.{nodes};
+ghost use Rattle.model.specs.Walks.{stand};
 ghost use Rattle.arena.specs.Owners.{Listed};
-ghost use Rattle.visitor.specs.Visits.{keyVisit};
+ghost use Rattle.visitor.specs.Visits.{keyEnd, keyVisit};
 use arena::Rank;
 use arena::Slot;
 use walk::Searched;
@@ -31,48 +35,38 @@ impl OrdIndexVisitor {
         }
     }
 
+    // Where the walk ends: at a rank, after n comparisons.
+    fn ended(self, w: &[u32], m: usize, rank: Rank, n: u32, found: bool) -> OrdIndexVisitor
+        requires { ⌜ Listed (now w) m (self .current .0) × (rank .0 ≤ length (nodes (now w) (self .current .0))) × (n ≤ self .left) ⌝ }
+        ensures { λ r. ⌜ r ≡ keyEnd (now (w .entry)) self (stand (rank .0) n) found ⌝ }
+    {
+        let current = walk::reach(w, m, self.current, rank);
+        OrdIndexVisitor {
+            current,
+            rank,
+            target: self.target,
+            left: self.left - n,
+            found,
+            over: false,
+        }
+    }
+
     pub fn traversed(self, w: &[u32], m: usize) -> OrdIndexVisitor
         requires { ⌜ Listed (now w) m (self .current .0) ⌝ }
         ensures { λ r. ⌜ r ≡ keyVisit (now (w .entry)) m self ⌝ }
     {
         let head = self.current;
-        let target = self.target;
-        let left = self.left;
-        match walk::search(w, m, head, target, left) {
-            Searched::Found(i, n) => {
-                let rank = Rank::from_index(i);
-                let current = walk::reach(w, m, head, rank);
-                return OrdIndexVisitor {
-                    current,
-                    rank,
-                    target,
-                    left: left - n,
-                    found: true,
-                    over: false,
-                };
-            }
-            Searched::Missing(i, n) => {
-                let rank = Rank::before(i);
-                let current = walk::reach(w, m, head, rank);
-                return OrdIndexVisitor {
-                    current,
-                    rank,
-                    target,
-                    left: left - n,
-                    found: false,
-                    over: false,
-                };
-            }
-            Searched::Beyond(_) => {
-                return OrdIndexVisitor {
-                    current: head,
-                    rank: Rank::HEAD,
-                    target,
-                    left: 0,
-                    found: false,
-                    over: true,
-                };
-            }
+        match walk::search(w, m, head, self.target, self.left) {
+            Searched::Found(i, n) => self.ended(w, m, Rank::from_index(i), n, true),
+            Searched::Missing(i, n) => self.ended(w, m, Rank::before(i), n, false),
+            Searched::Beyond(_) => OrdIndexVisitor {
+                current: head,
+                rank: Rank::HEAD,
+                target: self.target,
+                left: 0,
+                found: false,
+                over: true,
+            },
         }
     }
 

@@ -1,6 +1,6 @@
 -- `setup::write_record` meets its contract: a word a turn.
 use Prim.Native.Nat.{_-_, _≤_}
-use mathlib.Core.Path.{sym, _∙_}
+use mathlib.Core.Path.{_≡_, sym, _∙_}
 use native.Mathlib.Omega.{arith}
 use borrow.Author.Needs.{needs}
 use Rattle.model.specs.Arena.{width}
@@ -11,25 +11,22 @@ use Rattle.setup.proofs.write_record.Statement.{statement}
 use Rattle.setup.proofs.write_record.Tie as tie
 
 abbrev Inv-loop : tie.InvT-loop
-Inv-loop w₀ m s f c₀ w c = Storing m w₀ (s .0) (bareWords m (f .a) (f .b) (f .e) (f .d)) c w × (c ≤ width m)
+Inv-loop w₀ m s f words c₀ w c = Storing m w₀ (s .0) (bareWords m (f .a) (f .b) (f .e) (f .d)) c w × (c ≤ width m) × (words ≡ width m)
 
 abbrev μ-loop : tie.MeasureT-loop
-μ-loop w₀ m s f c₀ w c = width m - c
+μ-loop w₀ m s f words c₀ w c = words - c
+
+width-requires : tie.Need-width-requires Inv-loop μ-loop
+width-requires c κs = search needs
 
 loop-holds : tie.Need-loop-holds Inv-loop μ-loop
-loop-holds c = (store-none, omega arith)
-
-mul-loop : tie.Need-mul-loop Inv-loop μ-loop
-mul-loop c = search needs
-
-add-loop : tie.Need-add-loop Inv-loop μ-loop
-add-loop c = search needs
+loop-holds c = (store-none, omega arith, c .width .ensures)
 
 bare-word-requires : tie.Need-bare-word-requires Inv-loop μ-loop
 bare-word-requires c κs = search needs
 
 put-requires : tie.Need-put-requires Inv-loop μ-loop
-put-requires c κs = store-cell (c .before .before .before .before .before .pre) (c .before .before .before .loop .inv .0) (search needs)
+put-requires c κs = store-cell (c .before .before .before .before .before .before .pre) (c .before .before .before .loop .inv .0) (search needs)
 
 add-c : tie.Need-add-c Inv-loop μ-loop
 add-c c = search needs
@@ -39,12 +36,13 @@ loop-less c = search needs
 
 loop-again : tie.Need-loop-again Inv-loop μ-loop
 loop-again c =
-    let a = c .before .before .before .before .before .before .before .before .args in
+    let a = c .before .before .before .before .before .before .before .before .before .args in
     let l = c .before .before .before .before .before .before .loop in (
-      store-more (c .before .before .before .before .before .before .before .before .pre) (search needs) (l .inv .0)
+      store-more (c .before .before .before .before .before .before .before .before .before .pre) (search needs) (l .inv .0)
           (c .before .before .before .bare-word .ensures ∙ sym (bare-at (a .m) (l .c) (a .f .a) (a .f .b) (a .f .e) (a .f .d) (search needs)))
           (c .before .before .put .ensures),
       search needs,
+      l .inv .2,
     )
 
 same-length : tie.Need-same-length Inv-loop μ-loop
@@ -59,9 +57,8 @@ write-record-spec =
     (tie.spec
     Inv-loop
     μ-loop
+    width-requires
     loop-holds
-    mul-loop
-    add-loop
     bare-word-requires
     put-requires
     add-c

@@ -1,5 +1,5 @@
 -- `visitor::ord_index::OrdIndexVisitor::traversed` meets its contract.
--- The search tells where the walk ends, with its tally; the slot at that rank is where the visitor stands.
+-- The search tells where the walk ends, with its tally; `ended` is what the visitor then holds.
 use mathlib.Core.Path.{refl}
 use mathlib.Core.Bool.{true, false}
 use native.Mathlib.Omega.{arith}
@@ -16,18 +16,17 @@ enum-known-i : tie.Need-enum-known-i
 enum-known-i c = search needs
 
 from-index-requires : tie.Need-from-index-requires
-from-index-requires c κs = omega (arith, few (standing 0 (c .before .before .before .before .before .before .pre) (omega arith) refl), found-ends (c .before .before .before .before .before .before .pre) _ _ (c .before .before .before .search .ensures) (c .before .i .given .1) .rank)
+from-index-requires c κs =
+    let s = c .before .before .before in
+    let p = s .before .before .before .pre in
+    omega (arith, few (standing 0 p (omega arith) refl), found-ends p _ _ (s .search .ensures) (c .before .i .given .1) .rank)
 
-reach-requires : tie.Need-reach-requires
-reach-requires c κs = (c .before .before .before .before .before .before .before .pre, omega (arith, c .from-index .ensures, found-ends (c .before .before .before .before .before .before .before .pre) _ _ (c .before .before .before .before .search .ensures) (c .before .before .i .given .1) .rank))
-
-sub-t16 : tie.Need-sub-t16
-sub-t16 c = found-ends (c .before .before .before .before .before .before .before .before .pre) _ _ (c .before .before .before .before .before .search .ensures) (c .before .before .before .i .given .1) .within
-
-returns : tie.Need-returns
-returns c =
-    let g = c .before .before .before .before .before .before .before .before .args in
-    visit-ends (g .w .now) (g .m) (g .self) true _ _ (found-ends (c .before .before .before .before .before .before .before .before .pre) _ _ (c .before .before .before .before .before .search .ensures) (c .before .before .before .i .given .1)) (c .reach .result) (c .before .from-index .result) (omega (arith, c .before .from-index .ensures)) (c .reach .ensures)
+ended-requires : tie.Need-ended-requires
+ended-requires c κs =
+    let s = c .before .before .before .before in
+    let p = s .before .before .before .pre in
+    let e = found-ends p _ _ (s .search .ensures) (c .before .before .i .given .1) in
+    (p, omega (arith, c .from-index .ensures, e .rank), e .within)
 
 enum-known-i-2 : tie.Need-enum-known-i-2
 enum-known-i-2 c = search needs
@@ -35,24 +34,35 @@ enum-known-i-2 c = search needs
 before-requires : tie.Need-before-requires
 before-requires c κs = search needs
 
-reach-requires-2 : tie.Need-reach-requires-2
-reach-requires-2 c κs = (c .before .before .before .before .before .before .before .pre, omega (arith, c .before2 .ensures, missing-ends (c .before .before .before .before .before .before .before .pre) _ _ (c .before .before .before .before .search .ensures) (c .before .before .i2 .given .1) .rank))
-
-sub-t17 : tie.Need-sub-t17
-sub-t17 c = missing-ends (c .before .before .before .before .before .before .before .before .pre) _ _ (c .before .before .before .before .before .search .ensures) (c .before .before .before .i2 .given .1) .within
-
-returns-2 : tie.Need-returns-2
-returns-2 c =
-    let g = c .before .before .before .before .before .before .before .before .args in
-    visit-ends (g .w .now) (g .m) (g .self) false _ _ (missing-ends (c .before .before .before .before .before .before .before .before .pre) _ _ (c .before .before .before .before .before .search .ensures) (c .before .before .before .i2 .given .1)) (c .reach2 .result) (c .before .before2 .result) (c .before .before2 .ensures) (c .reach2 .ensures)
+ended-requires-2 : tie.Need-ended-requires-2
+ended-requires-2 c κs =
+    let s = c .before .before .before .before in
+    let p = s .before .before .before .pre in
+    let e = missing-ends p _ _ (s .search .ensures) (c .before .before .i2 .given .1) in
+    (p, omega (arith, c .before2 .ensures, e .rank), e .within)
 
 enum-told : tie.Need-enum-told
 enum-told c = search needs
 
+returns : tie.Need-returns
+returns c =
+    let s = c .before .before .before .before .before in
+    let g = s .before .before .before in
+    let e = found-ends (g .pre) _ _ (s .search .ensures) (c .before .before .before .i .given .1) in
+    visit-ends (g .args .w .now) (g .args .m) (g .args .self) true e (omega (arith, c .before .from-index .ensures)) (c .ended .ensures)
+
+returns-2 : tie.Need-returns-2
+returns-2 c =
+    let s = c .before .before .before .before .before in
+    let g = s .before .before .before in
+    let e = missing-ends (g .pre) _ _ (s .search .ensures) (c .before .before .before .i2 .given .1) in
+    visit-ends (g .args .w .now) (g .args .m) (g .args .self) false e (c .before .before2 .ensures) (c .ended2 .ensures)
+
 returns-3 : tie.Need-returns-3
 returns-3 c =
-    let g = c .before .before .before .before .before .args in
-    visit-over (g .w .now) (g .m) (g .self) (beyond-ends (c .before .before .before .before .before .pre) _ _ (c .before .before .search .ensures) (c .enum-told .given .1))
+    let s = c .before .before in
+    let g = s .before .before .before in
+    visit-over (g .args .w .now) (g .args .m) (g .args .self) (beyond-ends (g .pre) _ _ (s .search .ensures) (c .enum-told .given .1))
 
 pub traversed-spec : {M : Type 1} → statement M
 traversed-spec =
@@ -61,13 +71,11 @@ traversed-spec =
     search-requires
     enum-known-i
     from-index-requires
-    reach-requires
-    sub-t16
-    returns
+    ended-requires
     enum-known-i-2
     before-requires
-    reach-requires-2
-    sub-t17
-    returns-2
+    ended-requires-2
     enum-told
+    returns
+    returns-2
     returns-3)

@@ -1,8 +1,8 @@
--- `arena::last_word` meets its contract: each return rewrites the definition by the test that led to it.
+-- `arena::words::last_word` meets its contract: each return rewrites the definition by the test that led to it.
 use borrow.Author.Needs.{needs}
 use borrow.Author.Tests.{eq-eqb, ne-eqb}
-use Rattle.arena.proofs.last_word.Statement.{statement}
-use Rattle.arena.proofs.last_word.Tie as tie
+use Rattle.arena.proofs.words.last_word.Statement.{statement}
+use Rattle.arena.proofs.words.last_word.Tie as tie
 
 returns : tie.Need-returns
 returns c = search (needs, eq-eqb)

@@ -1,8 +1,8 @@
--- `arena::cell` meets its contract.
+-- `arena::words::cell` meets its contract.
 use Rattle.model.specs.Cells.{cellAt}
 use borrow.Author.Needs.{needs}
-use Rattle.arena.proofs.cell.Statement.{statement}
-use Rattle.arena.proofs.cell.Tie as tie
+use Rattle.arena.proofs.words.cell.Statement.{statement}
+use Rattle.arena.proofs.words.cell.Tie as tie
 
 place-requires : tie.Need-place-requires
 place-requires c κs = search needs

@@ -1,12 +1,12 @@
--- `arena::place` meets its contract.
+-- `arena::layout::place` meets its contract.
 -- A slot is a u32 and a record has at most 36 words, so the product fits a usize.
 use Prim.Native.Nat.{_≤_}
 use native.Mathlib.Nat.{mul-le-mul-left}
 use native.Mathlib.Omega.{arith}
 use Rattle.model.specs.Arena.{width}
 use borrow.Author.Needs.{needs}
-use Rattle.arena.proofs.place.Statement.{statement}
-use Rattle.arena.proofs.place.Tie as tie
+use Rattle.arena.proofs.layout.place.Statement.{statement}
+use Rattle.arena.proofs.layout.place.Tie as tie
 
 wide-requires : tie.Need-wide-requires
 wide-requires c κs = search needs

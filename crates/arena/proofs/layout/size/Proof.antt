@@ -1,9 +1,9 @@
--- `arena::size` meets its contract: the product is small.
+-- `arena::layout::size` meets its contract: the product is small.
 use native.Mathlib.Omega.{arith}
 use Rattle.arena.proofs.Lengths.{few}
 use borrow.Author.Needs.{needs}
-use Rattle.arena.proofs.size.Statement.{statement}
-use Rattle.arena.proofs.size.Tie as tie
+use Rattle.arena.proofs.layout.size.Statement.{statement}
+use Rattle.arena.proofs.layout.size.Tie as tie
 
 add-wide : tie.Need-add-wide
 add-wide c = search needs

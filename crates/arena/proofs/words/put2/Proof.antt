@@ -1,9 +1,10 @@
+-- `arena::words::put2` meets its contract: two stores.
 use borrow.Author.Needs.{needs}
-use Rattle.arena.proofs.put2.Statement.{statement}
-use Rattle.arena.proofs.put2.Tie as tie
-use Rattle.arena.proofs.put2.Reads as reads
-use Rattle.arena.proofs.put2.Lts as lts
-use Rattle.arena.proofs.put.Reads as put-reads
+use Rattle.arena.proofs.words.put2.Statement.{statement}
+use Rattle.arena.proofs.words.put2.Tie as tie
+use Rattle.arena.proofs.words.put2.Reads as reads
+use Rattle.arena.proofs.words.put2.Lts as lts
+use Rattle.arena.proofs.words.put.Reads as put-reads
 
 -- src/lib.rt:84:5
 put-requires : tie.Need-put-requires

@@ -1,8 +1,8 @@
--- `arena::put` meets its contract.
+-- `arena::words::put` meets its contract.
 use Rattle.model.specs.Cells.{putAt}
 use borrow.Author.Needs.{needs}
-use Rattle.arena.proofs.put.Statement.{statement}
-use Rattle.arena.proofs.put.Tie as tie
+use Rattle.arena.proofs.words.put.Statement.{statement}
+use Rattle.arena.proofs.words.put.Tie as tie
 
 place-requires : tie.Need-place-requires
 place-requires c κs = search needs
