@@ -8,7 +8,7 @@ use native.Mathlib.Nat.{not-suc-le-zero, add-zero, mul-le-mul-right}
 use native.Mathlib.Omega.{arith}
 use borrow.Author.Tests.{lt-ltb}
 use Rattle.arena.specs.Owners.{Owner}
-use Rattle.model.specs.Arena.{width, toColumn, farColumn, State, nodeLinks, nodeWords, headWords, firstSlot, encode, listOf}
+use Rattle.model.specs.Arena.{headerWords, width, toColumn, farColumn, State, nodeLinks, nodeWords, headWords, firstSlot, encode, listOf}
 use Rattle.model.specs.Cells.{recordAt, cellAt}
 use Rattle.model.specs.Links.{target, distance}
 use Rattle.model.specs.Nodes.{Node, node, N, slotAt, heightAt, at}
@@ -55,6 +55,9 @@ module _ (S : State) (v : Sound S) (a : ℕ) (l : a < length (S .lists)) where
 module _ (w : List ℕ) (p : Passes w) where
   words-length : length w ≡ 8 + (length (decode w .lists) + decode w .room) * (width (decode w .levels))
   words-length = ap length (p .words) ∙ length-encode (decode w)
+
+  pub has-header : headerWords ≤ length w
+  has-header = omega (arith, words-length)
 
   -- a word of a record is in the slice
   pub fits : (s c : ℕ) → s < length (decode w .lists) + decode w .room → c < width (decode w .levels) → 8 + s * (width (decode w .levels)) + c < length w

@@ -63,9 +63,6 @@ module _ {S T : State} {a o : ℕ} {A X Y : List Node} (H : Hung S T a o A X Y) 
     mix₁ : Mix m (slots-of S) (recordOf T) (recordOf S) 4 (farColumn l) u
     mix₁ = mix-up stored₁ (omega arith) refl (omega arith) (g .mixed)
 
-    pub cells-then : Cell u m s (farColumn l) × Cell u m o (farColumn l)
-    cells-then = (there m (slots-of S) sm u mix₁ s (farColumn l) (st .known) (omega arith), there m (slots-of S) sm u mix₁ o (farColumn l) on (omega arith))
-
     pub turned : (x : List ℕ) → x ≡ putAt m (putAt m u s (farColumn l) dp) o (farColumn l) d → Relinked S T fr m (l + 1) x
     turned x ex =
         let stored₂ : Stored m (slots-of S) (recordOf T) (farColumn l) u x = rw ex (

@@ -1,4 +1,5 @@
 -- What the core functions ask of words and leave: for the crates above, not for a reader of the promises.
+pub mod Lies
 pub mod Mixed
 pub mod Owners
 pub mod Says

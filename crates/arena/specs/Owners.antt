@@ -14,7 +14,7 @@ pub record Listed (w : List ℕ) (m a : ℕ) : Type 0 where
   pub levels : m ≡ decode w .levels
   pub list : a < length (decode w .lists)
 
--- List a has a node at index i.
+-- The node at index i of list a is there, so that it can go.
 pub record Leaves (w : List ℕ) (m a i : ℕ) : Type 0 where
   pub listed : Listed w m a
   pub index : i < length (nodes w a)

@@ -105,10 +105,3 @@ pub fn wide(x: u32) -> usize
 {
     x as usize
 }
-
-pub fn narrow(x: usize) -> u32
-    requires { ⌜ x < 4294967296 ⌝ }
-    ensures { λ r. ⌜ r ≡ x ⌝ }
-{
-    x as u32
-}

@@ -10,7 +10,7 @@ use Rattle.model.specs.Nodes.{N}
 use Rattle.model.proofs.Tests.{hit, miss, test}
 use Rattle.arena_check.specs.declared.Dims.{Dims}
 use Rattle.arena.specs.Says.{Says}
-use Rattle.arena_check.specs.Answers.{Below}
+use Rattle.arena_check.specs.Below.{Below}
 use Rattle.arena_check.specs.Sizes.{lengths, Differ}
 use Rattle.arena.proofs.Saying.{say-yes, say-no}
 use Rattle.arena_check.proofs.Levels.{Upto, upto-more}

@@ -14,7 +14,7 @@ use Rattle.model.specs.Arena.{toColumn, farColumn}
 use Rattle.model.proofs.Tests.{hit, miss, test}
 use Rattle.arena_check.specs.declared.Dims.{Dims}
 use Rattle.arena.specs.Says.{Says}
-use Rattle.arena_check.specs.Answers.{Below}
+use Rattle.arena_check.specs.Below.{Below}
 use Rattle.arena_check.specs.Free.{AbsentFrom}
 use Rattle.arena_check.specs.Walked.{Spans, Meets, Closes, Owners, filled}
 use Rattle.arena.proofs.Saying.{yes, no, say-yes, say-no}

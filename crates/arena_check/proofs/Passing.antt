@@ -18,7 +18,7 @@ use Rattle.model.proofs.Counting.{all-slots}
 use Rattle.model.proofs.Records.{placed}
 use Rattle.model.proofs.Tests.{hit, miss, test}
 use Rattle.arena.specs.Says.{Says}
-use Rattle.arena_check.specs.Answers.{Below}
+use Rattle.arena_check.specs.Below.{Below}
 use Rattle.arena_check.specs.Sizes.{dimsOf, lengths, Differ}
 use Rattle.arena_check.specs.Free.{AbsentFrom}
 use Rattle.arena_check.specs.Whole.{Whole}

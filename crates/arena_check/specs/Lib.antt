@@ -1,5 +1,5 @@
 -- What each part of the check asks of any words: for proofs/, not for a reader of the promises.
-pub mod Answers
+pub mod Below
 pub mod Sizes
 pub mod Free
 pub mod Walked

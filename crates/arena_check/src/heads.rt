@@ -4,7 +4,7 @@ ghost use Prim.Native.Nat.{_+_, _<_};
 ghost use lib.ListN.{getD};
 ghost use Rattle.model.specs.Arena.{freeWord};
 ghost use Rattle.arena.specs.Says.{Says};
-ghost use Rattle.arena_check.specs.Answers.{Below};
+ghost use Rattle.arena_check.specs.Below.{Below};
 ghost use Rattle.arena_check.specs.Sizes.{Shape, lengths, Differ};
 ghost use Rattle.arena_check.specs.Walked.{ListOk};
 use super::Dims;

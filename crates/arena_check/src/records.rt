@@ -1,6 +1,6 @@
 // The records on any words: the forms that they share, and the free chain.
 ghost use mathlib.Core.Path.{_≡_};
-ghost use Prim.Native.Nat.{_+_, _*_, _≤_, _<_};
+ghost use Prim.Native.Nat.{_+_, _≤_, _<_};
 ghost use lib.ListN.{getD};
 ghost use Rattle.model.specs.Cells.{cellAt};
 ghost use Rattle.model.specs.Arena.{width, firstFreeWord, freeWord};

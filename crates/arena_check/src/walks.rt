@@ -1,8 +1,9 @@
 // One walk along a list: its nodes by next, and at each level the pending link, which the next node of that level must close. Two arrays
 // hold the slot and the rank of the last owner that was met at each level.
 ghost use mathlib.Core.Path.{_≡_};
-ghost use Prim.Native.Nat.{_+_, _*_, _≤_, _<_};
+ghost use Prim.Native.Nat.{_≤_, _<_};
 ghost use Rattle.model.specs.Cells.{cellAt};
+ghost use Rattle.model.specs.Arena.{countColumn};
 ghost use Rattle.arena.specs.Says.{Says};
 ghost use Rattle.arena_check.specs.Sizes.{Shape};
 ghost use Rattle.arena_check.specs.Walked.{Spans, Closes, Loose, Owners, NodeOk, WalkOk, ListOk, filled};
@@ -133,7 +134,7 @@ fn node_ok(
 fn walk_ok(w: &[u32], d: Dims, a: Slot) -> bool
     requires { ⌜ Shape (now w) d ⌝ }
     requires { ⌜ a .0 < d .lists ⌝ }
-    requires { ⌜ cellAt (d .levels) (now w) (a .0) 0 ≤ d .room ⌝ }
+    requires { ⌜ cellAt (d .levels) (now w) (a .0) countColumn ≤ d .room ⌝ }
     ensures { λ y. ⌜ Says y (WalkOk (now (w .entry)) d (a .0)) ⌝ }
 {
     let head = a.0;
@@ -172,7 +173,7 @@ fn walk_ok(w: &[u32], d: Dims, a: Slot) -> bool
 pub fn list_ok(w: &[u32], d: Dims, a: Slot) -> bool
     requires { ⌜ Shape (now w) d ⌝ }
     requires { ⌜ a .0 < d .lists ⌝ }
-    requires { ⌜ cellAt (d .levels) (now w) (a .0) 0 ≤ d .room ⌝ }
+    requires { ⌜ cellAt (d .levels) (now w) (a .0) countColumn ≤ d .room ⌝ }
     ensures { λ y. ⌜ Says y (ListOk (now (w .entry)) d (a .0)) ⌝ }
 {
     let h = arena::wide(word(w, d, a, arena::HEIGHT));

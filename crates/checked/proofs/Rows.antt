@@ -3,16 +3,14 @@ use Prim.Native.Nat.{ℕ, _≤_, _<_}
 use mathlib.Core.Path.{_≡_, refl, sym, ap, _∙_}
 use mathlib.Core.Logic.{_≢_}
 use mathlib.Core.Bool.{Bool, true, false, cond}
-use mathlib.Core.List.{List, [], _∷_}
+use mathlib.Core.List.{List}
 use lib.Dec.{eqb, ltb}
-use lib.ListN.{length, getD}
+use lib.ListN.{length}
 use native.Mathlib.Omega.{arith}
 use borrow.Author.Tests.{lt-ltb, le-ltb, le-leb, lt-leb, eq-eqb, ne-eqb}
-use Rattle.model.specs.Nodes.{Node}
 use Rattle.model.specs.Arena.{State, encode, listOf}
 use Rattle.model.specs.Passes.{decode, Passes}
 use Rattle.model.specs.Calls.{Call, insertKey, splitAt, Answer, answer, refusal, accepted, performed, answerTo, row3, row4, row7, row8}
-use Rattle.model.proofs.Columns.{length-encode}
 use Rattle.checked.specs.Kept.{Kept}
 
 -- ---- the rows ----
@@ -109,20 +107,3 @@ module _ {w : List ℕ} (p : Passes w) where
     answered = a;
     left = p .words ∙ ap encode (sym (ap (λ (S : State). cond (eqb (refusal (decode w) c) 0) S (decode w)) e ∙ same-either (eqb (refusal (decode w) c) 0) (decode w)));
   }
-
-pub no-nodes : (xs : List Node) → length xs ≡ 0 → xs ≡ []
-no-nodes [] e = refl
-no-nodes (x ∷ xs) e = absurd (omega (arith, e))
-
--- ---- the header ----
-pub header-lists : (w : List ℕ) → Passes w → getD w 2 0 ≡ length (decode w .lists)
-header-lists w p = ap (λ (u : List ℕ). getD u 2 0) (p .words)
-
-pub header-levels : (w : List ℕ) → Passes w → getD w 3 0 ≡ decode w .levels
-header-levels w p = refl
-
-pub header-free : (w : List ℕ) → Passes w → getD w 6 0 ≡ length (decode w .free)
-header-free w p = ap (λ (u : List ℕ). getD u 6 0) (p .words)
-
-pub has-header : (w : List ℕ) → Passes w → 8 ≤ length w
-has-header w p = omega (arith, ap length (p .words) ∙ length-encode (decode w))

@@ -12,7 +12,7 @@ use native.Mathlib.Omega.{arith}
 use Rattle.model.specs.Nodes.{Node, node, N, slotAt}
 use Rattle.model.specs.Links.{further, target, distance}
 use Rattle.model.specs.Walks.{last}
-use Rattle.model.specs.Arena.{toColumn, farColumn, State, absent, firstFree, freeWords, recordOf, slots-of}
+use Rattle.model.specs.Arena.{toColumn, farColumn, State, firstFree, freeWords, recordOf, slots-of}
 use Rattle.model.specs.Cells.{cellAt, putAt}
 use Rattle.model.specs.Passes.{decode, nodes}
 use Rattle.model.proofs.Counting.{list-few}
@@ -25,16 +25,13 @@ use Rattle.model.proofs.Tests.{hit, miss, test}
 use Rattle.model.proofs.Walk.{last-le}
 use Rattle.arena.specs.Owners.{Before}
 use Rattle.arena.proofs.Relink.{Relinked, relink-start, un-past, old-to-is, old-far-is, turned}
+use Rattle.model.proofs.Steps.{distance-le}
+use Rattle.model.proofs.Chained.{absent-at}
 use Rattle.insert_remove.specs.Changes.{insertedAt, Enters, Rehung}
 use Rattle.insert_remove.specs.Levels.{Level, LevelIn}
 use Rattle.insert_remove.proofs.Spanning.{lies, spanned}
 
 -- the links of a free slot are absent
-pub absent-at : (n l : ℕ) → l < n → (getD (absent n) (2 * l) 0 ≡ N) × (getD (absent n) (suc (2 * l)) 0 ≡ 0)
-absent-at zero l k = absurd (not-suc-le-zero k)
-absent-at (suc n) zero k = (refl, refl)
-absent-at (suc n) (suc l) k = let e : 2 * suc l ≡ suc (suc (2 * l)) = omega arith in rw e (absent-at n l (omega arith))
-
 pub free-link : (M : ℕ) (fs : List ℕ) (l : ℕ) → l < M → (getD (freeWords M fs) (toColumn l) 0 ≡ N) × (getD (freeWords M fs) (farColumn l) 0 ≡ 0)
 free-link M fs l k =
     let four : toColumn l ≡ suc (suc (suc (suc (2 * l)))) = omega arith in
@@ -42,14 +39,6 @@ free-link M fs l k =
     (ap (λ (c : ℕ). getD (freeWords M fs) c 0) four ∙ absent-at M l k .0, ap (λ (c : ℕ). getD (freeWords M fs) c 0) five ∙ absent-at M l k .1)
 
 -- distances are small
-pub distance-le : (g : ℕ) (ys : List Node) → distance g ys ≤ length ys
-distance-le g [] = omega arith
-distance-le g (y ∷ ys) = elim (test g (y .height)) [ hit e p ↦ rw e (omega arith) | miss e p ↦ rw e (one-more (distance g ys) (distance-le g ys)) ]
-  where
-    one-more : (d : ℕ) {n : ℕ} → d ≤ n → further d ≤ suc n
-    one-more zero l = omega arith
-    one-more (suc d) l = omega arith
-
 pub past-le : (k d n : ℕ) → d ≤ n → past k d ≤ k + n
 past-le k zero n l = omega arith
 past-le k (suc d) n l = omega arith

@@ -17,9 +17,9 @@ use Rattle.model.proofs.Inserting.{not-f, f-T}
 use Rattle.model.proofs.Owners.{says-next}
 use Rattle.model.proofs.Tests.{same, other, same?}
 use Rattle.model.proofs.Walk.{last-zero}
-use Rattle.model.proofs.Columns.{length-encode}
 use Rattle.arena.proofs.Relink.{Half, there}
-use Rattle.insert_remove.specs.Changes.{insertedAt, Enters, Lies, Rehung, columns}
+use Rattle.arena.specs.Lies.{Lies}
+use Rattle.insert_remove.specs.Changes.{insertedAt, Enters, Rehung, columns}
 use Rattle.insert_remove.proofs.Columns.{columns-done, header-done}
 use Rattle.insert_remove.proofs.InsertLinks.{H, like, o-S, small, few, o-in, length-A, stage-of, insert-start}
 use Rattle.insert_remove.proofs.Spanning.{lies}
@@ -40,9 +40,6 @@ first-is w p = ap (λ (t : List ℕ). getD t 5 0) (p .words)
 
 pub number-is : (w : List ℕ) → Passes w → getD w 6 0 ≡ length (decode w .free)
 number-is w p = ap (λ (t : List ℕ). getD t 6 0) (p .words)
-
-pub long : (w : List ℕ) → Passes w → 8 ≤ length w
-long w p = omega (arith, ap length (p .words) ∙ length-encode (decode w))
 
 module _ {w₀ : List ℕ} {m a i k h : ℕ} (p : Enters w₀ m a i k h) where
   abbrev S : State

@@ -27,10 +27,11 @@ use Rattle.model.proofs.Tests.{hit, miss, test}
 use Rattle.model.proofs.Walk.{last-le}
 use Rattle.arena.specs.Owners.{Before, Leaves}
 use Rattle.arena.proofs.Relink.{Relinked, relink-start, old-far-is, turned}
+use Rattle.model.proofs.Steps.{distance-le}
 use Rattle.insert_remove.specs.Changes.{Rehung}
 use Rattle.insert_remove.specs.Levels.{Level, LevelOut}
 use Rattle.spans.proofs.Distances.{farther-is}
-use Rattle.insert_remove.proofs.InsertLinks.{free-link, distance-le, past-le, further-past}
+use Rattle.insert_remove.proofs.InsertLinks.{free-link, past-le, further-past}
 use Rattle.insert_remove.proofs.Spanning.{lies, spanned}
 
 less-further : (d : ℕ) → further d - 1 ≡ d

@@ -21,7 +21,8 @@ use Rattle.model.proofs.Tests.{same, other, same?}
 use Rattle.model.proofs.Walk.{last-zero}
 use Rattle.arena.specs.Owners.{Leaves}
 use Rattle.arena.proofs.Relink.{Half, there}
-use Rattle.insert_remove.specs.Changes.{Lies, Rehung, columns}
+use Rattle.arena.specs.Lies.{Lies}
+use Rattle.insert_remove.specs.Changes.{Rehung, columns}
 use Rattle.insert_remove.proofs.Columns.{columns-done, header-done}
 use Rattle.insert_remove.proofs.InsertWhole.{last-new, first-is, number-is}
 use Rattle.insert_remove.proofs.RemoveLinks.{H, like, small, few, o-in, length-A, stage-of, remove-start}

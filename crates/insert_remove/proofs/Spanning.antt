@@ -16,7 +16,7 @@ use Rattle.model.proofs.Links.{past}
 use Rattle.arena.specs.Mixed.{Mix}
 use Rattle.arena.proofs.Cells.{cell-other}
 use Rattle.arena.proofs.Relink.{Relinked, old-to-is, turned}
-use Rattle.insert_remove.specs.Changes.{Lies}
+use Rattle.arena.specs.Lies.{Lies}
 
 -- a word stored as it is
 pub put-same : (m : ℕ) (w : List ℕ) (s c v : ℕ) → v ≡ cellAt m w s c → putAt m w s c v ≡ w

@@ -6,7 +6,8 @@ use lib.ListN.{length}
 use native.Mathlib.Omega.{arith}
 use Rattle.model.specs.Cells.{Cell, cellAt, putAt}
 use Rattle.model.specs.Arena.{width, toColumn, farColumn}
-use Rattle.insert_remove.specs.Changes.{Lies, columns}
+use Rattle.arena.specs.Lies.{Lies}
+use Rattle.insert_remove.specs.Changes.{columns}
 use Rattle.insert_remove.specs.Levels.{relink}
 
 pub in-record : {w : List ℕ} {m s : ℕ} → Lies w m s → {c : ℕ} → c < width m → Cell w m s c

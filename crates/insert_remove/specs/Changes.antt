@@ -1,13 +1,13 @@
 -- An insertion or a removal at an index: what it asks of words, the model that it leaves, and the words once the links are done.
 -- Rests on model's specs and on arena's Listed and Mix.
-use Prim.Native.Nat.{ℕ, _+_, _≤_, _<_}
+use Prim.Native.Nat.{ℕ, _≤_, _<_}
 use mathlib.Core.Path.{_≡_}
 use mathlib.Core.List.{List}
 use lib.ListN.{length, take, drop}
 use Rattle.model.specs.Nodes.{node, Sorted}
 use Rattle.model.specs.Lists.{insertAt}
 use Rattle.model.specs.Arena.{headerWords, countColumn, keyColumn, heightColumn, nextColumn, lastColumn, State, toColumn, width, firstFree, listOf, putList, recordOf, slots-of}
-use Rattle.model.specs.Cells.{place, putAt}
+use Rattle.model.specs.Cells.{putAt}
 use Rattle.model.specs.Passes.{decode, nodes}
 use Rattle.arena.specs.Mixed.{Mix}
 use Rattle.arena.specs.Owners.{Listed}
@@ -23,11 +23,6 @@ pub record Enters (w : List ℕ) (m a i k h : ℕ) : Type 0 where
   pub room : 0 < length (decode w .free)
   pub within : i ≤ length (nodes w a)
   pub sorted : Sorted (insertAt i (node (firstFree (decode w .free)) k h) (nodes w a))
-
--- The record of slot s lies in the slice.
-pub record Lies (w : List ℕ) (m s : ℕ) : Type 0 where
-  pub small : m ≤ 16
-  pub inside : place m s + width m ≤ length w
 
 -- The header and the columns before the links are as before, the links as in the model T.
 pub record Rehung (before : List ℕ) (T : State) (m : ℕ) (after : List ℕ) : Type 0 where

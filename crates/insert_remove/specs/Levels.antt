@@ -8,7 +8,7 @@ use Rattle.model.specs.Nodes.{N}
 use Rattle.model.specs.Links.{further}
 use Rattle.model.specs.Cells.{cellAt, putAt}
 use Rattle.model.specs.Arena.{toColumn, farColumn}
-use Rattle.insert_remove.specs.Changes.{Lies}
+use Rattle.arena.specs.Lies.{Lies}
 
 -- The link of level l, of slots s and o.
 abbrev pub relink : ℕ → ℕ → List ℕ → ℕ → ℕ → ℕ → ℕ → ℕ → ℕ → List ℕ

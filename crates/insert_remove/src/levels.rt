@@ -16,7 +16,7 @@ use spans::made;
 use spans::nearer;
 use spans::shorter;
 ghost use mathlib.Core.Path.{_≡_};
-ghost use Prim.Native.Nat.{suc, _+_, _-_, _<_};
+ghost use Prim.Native.Nat.{suc};
 ghost use Rattle.model.specs.Nodes.{slotAt, heightAt};
 ghost use Rattle.model.specs.Arena.{firstFree};
 ghost use Rattle.model.specs.Calls.{doRemove};

@@ -14,6 +14,7 @@ use arena::Rank;
 use arena::Slot;
 use arena::cell;
 use arena::header;
+use arena::last_word;
 use arena::put;
 use arena::put_header;
 use arena::put2;
@@ -31,7 +32,8 @@ ghost use Rattle.model.specs.Arena.{headerWords, firstFreeWord, freeWord, encod
 ghost use Rattle.model.specs.Calls.{doInsert, doRemove};
 ghost use Rattle.model.specs.Passes.{decode, nodes};
 ghost use Rattle.arena.specs.Owners.{Listed, Leads, Leaves};
-ghost use Rattle.insert_remove.specs.Changes.{insertedAt, Enters, Lies, columns};
+ghost use Rattle.arena.specs.Lies.{Lies};
+ghost use Rattle.insert_remove.specs.Changes.{insertedAt, Enters, columns};
 ghost use Rattle.insert_remove.specs.Answers.{RemovedKey};
 
 // What changes of a list's head.
@@ -88,10 +90,7 @@ fn last_without(i: Index, n: u32, end: Slot, last: u32) -> u32
 {
     let rank = Rank::from_index(i).0;
     if rank == n {
-        if i.0 == 0 {
-            return Slot::NONE.0;
-        }
-        return end.0;
+        return last_word(i.0, end.0);
     }
     last
 }

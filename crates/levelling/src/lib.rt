@@ -10,7 +10,7 @@ use arena::wide;
 use insert_remove::insert_before;
 use insert_remove::remove_after;
 ghost use mathlib.Core.Path.{_≡_};
-ghost use Prim.Native.Nat.{_≤_, _<_};
+ghost use Prim.Native.Nat.{_≤_};
 ghost use Rattle.model.specs.Lists.{twos};
 ghost use Rattle.model.specs.Arena.{encode};
 ghost use Rattle.model.specs.Calls.{doLevel};

@@ -10,7 +10,6 @@ use native.Mathlib.Omega.{arith}
 use borrow.Author.Tests.{le-leb, lt-ltb, leb-true, ltb-true, ne-eqb}
 use Rattle.model.specs.Arena.{State, listOf}
 use Rattle.model.specs.Calls.{Call, search, read, insertKey, removeKey, removeIndex, truncate, clear, splitAt, splitKey, appendList, middle, level, refusal, row3, row4, row7, row8}
-use Rattle.model.specs.Nodes.{Node}
 use Rattle.model.specs.Walks.{ended, isFound, keyWalk}
 use Rattle.model.proofs.Tests.{same, other, same?}
 
@@ -47,7 +46,7 @@ in3 S a later e = let p = passed (ltb a (length (S .lists))) later 3 (omega arit
 in4 : (a b later : ℕ) → row4 a b later ≡ 0 → (a ≢ b) × (later ≡ 0)
 in4 a b later e = elim (same? a b) [ same f p ↦ absurd (omega (arith, rw f at e)) | other f p ↦ (p, rw f at e) ]
 
-no-length : (xs : List Node) → length xs ≡ 0 → xs ≡ []
+pub no-length : {A : Type 0} (xs : List A) → length xs ≡ 0 → xs ≡ []
 no-length [] e = refl
 no-length (x ∷ xs) e = absurd (omega arith)
 

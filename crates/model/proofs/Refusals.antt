@@ -15,6 +15,7 @@ use Rattle.model.specs.Nodes.{Node}
 use Rattle.model.specs.Passes.{Sound}
 use Rattle.model.specs.Refusals.{Past, Applies, no-list, same-lists, too-high, none-free, not-empty-at, not-empty-key, read-past, remove-past, split-past, no-middle, no-key, over}
 use Rattle.model.specs.Walks.{ended, isFound, keyWalk}
+use Rattle.model.proofs.Allowed.{no-length}
 use Rattle.model.proofs.ByKey.{key-missing, key-found}
 use Rattle.model.proofs.Keeps.{sorted-list}
 use Rattle.model.proofs.Tests.{same, other, same?, hit, miss, test}
@@ -41,10 +42,6 @@ module _ (P : ℕ → Type 0) (S : State) where
   at-bool true later k f p = p
   at-bool false later k f p = f refl
 
-no-nodes : {A : Type 0} (xs : List A) → length xs < 1 → xs ≡ []
-no-nodes [] l = refl
-no-nodes (x ∷ xs) l = absurd (omega arith)
-
 module _ (S : State) (v : Sound S) where
   -- a number that is not 0 applies
   abbrev Good : Call → ℕ → Type 0
@@ -61,7 +58,7 @@ module _ (S : State) (v : Sound S) where
   given-applies (read a i) = one (read a i) a _ inl (at-le (Good (read a i)) S (suc i) _ 0 8 (λ l z. read-past (omega arith)) (none (read a i)))
   given-applies (insertKey a k h) =
       let c = insertKey a k h in
-      one c a _ inl (at-le (Good c) S h (S .levels) _ 5 (λ l z. too-high l) (at-le (Good c) S 1 (length (S .free)) 0 6 (λ l z. none-free (no-nodes (S .free) l)) (none c)))
+      one c a _ inl (at-le (Good c) S h (S .levels) _ 5 (λ l z. too-high l) (at-le (Good c) S 1 (length (S .free)) 0 6 (λ l z. none-free (no-length (S .free) (omega (arith, l)))) (none c)))
   given-applies (removeKey a k) =
       let c = removeKey a k in
       one c a _ inl (at-bool (Good c) S (isFound (keyWalk (S .levels) k (listOf S a))) 0 9 (λ e z. no-key (key-missing (S .levels) k (listOf S a) (sorted-list S v a) e)) (none c))
@@ -78,7 +75,7 @@ module _ (S : State) (v : Sound S) where
   given-applies (appendList a b) =
       let c = appendList a b in
       one c a _ inl (one c b _ (λ l. inr (inl l)) (at4 (Good c) S a b _ (λ e z. same-lists {a = b} (ap (λ (x : ℕ). x ∷ b ∷ []) e)) (none c)))
-  given-applies (middle a) = one (middle a) a _ inl (at-le (Good (middle a)) S 1 _ 0 8 (λ l z. no-middle (no-nodes (listOf S a) l)) (none (middle a)))
+  given-applies (middle a) = one (middle a) a _ inl (at-le (Good (middle a)) S 1 (length (listOf S a)) 0 8 (λ l z. no-middle (no-length (listOf S a) (omega (arith, l)))) (none (middle a)))
   given-applies (level a) = one (level a) a 0 inl (none (level a))
 
 -- ---- what applies is not below what is given ----
@@ -149,7 +146,7 @@ module _ (S : State) where
 
   seven : (b later : ℕ) → listOf S b ≢ [] → Within 7 (row7 S b later)
   seven b later n = elim (same? (length (listOf S b)) 0) [
-    | same e q ↦ absurd (n (no-nodes (listOf S b) (omega arith)))
+    | same e q ↦ absurd (n (no-length (listOf S b) q))
     | other e q ↦ rw e (omega arith)
   ]
 

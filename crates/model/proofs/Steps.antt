@@ -1,11 +1,12 @@
--- One look at a link: what a step of the walk by key does to its closed form. Rests on specs/Walks.
+-- One look at a link: what a step of the walk by key does to its closed form, and how far a link goes. Rests on specs/Walks.
 use Prim.Native.Nat.{ℕ, zero, suc, _+_, _≤_, _<_}
 use mathlib.Core.Path.{_≡_, refl, sym, _∙_}
 use mathlib.Core.List.{List, [], _∷_}
-use lib.ListN.{drop}
+use lib.ListN.{length, drop}
 use native.Mathlib.Nat.{suc-ne-zero}
 use native.Mathlib.Omega.{arith}
-use borrow.Author.Tests.{lt-ltb, le-ltb}
+use borrow.Author.Tests.{le-leb, lt-ltb, le-ltb}
+use Rattle.model.specs.Arena.{firstSlot}
 use Rattle.model.specs.Links.{further, distance, target}
 use Rattle.model.specs.Nodes.{Node, at}
 use Rattle.model.specs.Walks.{go, asks}
@@ -72,3 +73,16 @@ target-at h (y ∷ ys) (suc d) e = elim (test h (y .height)) [
   | hit f p ↦ absurd (omega (arith, rw f at e))
   | miss f p ↦ rw f (target-at h ys d (further-one (distance h ys) (suc d) (rw f at e) .0))
 ]
+
+-- ---- how far a link goes, and next as the link of stage 0 ----
+pub distance-le : (h : ℕ) (ys : List Node) → distance h ys ≤ length ys
+distance-le h [] = omega arith
+distance-le h (y ∷ ys) = elim (test h (y .height)) [ hit e p ↦ rw e (omega arith) | miss e p ↦ rw e (one-more (distance h ys) (distance-le h ys)) ]
+  where
+    one-more : (d : ℕ) {n : ℕ} → d ≤ n → further d ≤ suc n
+    one-more zero l = omega arith
+    one-more (suc d) l = omega arith
+
+pub first-target : (ys : List Node) → firstSlot ys ≡ target 0 ys
+first-target [] = refl
+first-target (y ∷ ys) = rw (le-leb 0 (y .height) (omega arith)) refl

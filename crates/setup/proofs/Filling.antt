@@ -2,7 +2,7 @@
 use Prim.Native.Nat.{ℕ, _+_, _-_, _*_, _≤_, _<_}
 use mathlib.Core.Path.{_≡_, refl, sym, ap, _∙_, subst}
 use mathlib.Core.Logic.{_≢_}
-use mathlib.Core.Bool.{Bool, true, false}
+use mathlib.Core.Bool.{Bool, false}
 use mathlib.Core.List.{List, []}
 use lib.Dec.{T}
 use lib.ListN.{length, drop, getD, length-replicate}
@@ -16,7 +16,8 @@ use Rattle.model.specs.Calls.{Room, SetUpPromise}
 use Rattle.model.proofs.Tests.{same, other, same?}
 use Rattle.arena.proofs.Cells.{cell-same, cell-other, put-size, mix-end}
 use Rattle.arena.specs.Says.{Says}
-use Rattle.setup.specs.Bare.{bareWords, Inside, Written, Filled, HeaderSet}
+use Rattle.arena.specs.Lies.{Lies}
+use Rattle.setup.specs.Bare.{bareWords, Written, Filled, HeaderSet}
 
 -- the first k words of the record of slot s are R's
 pub record Storing (M : ℕ) (before : List ℕ) (s : ℕ) (R : List ℕ) (k : ℕ) (after : List ℕ) : Type 0 where
@@ -27,14 +28,14 @@ pub record Storing (M : ℕ) (before : List ℕ) (s : ℕ) (R : List ℕ) (k : �
 pub store-none : {M s : ℕ} {R w : List ℕ} → Storing M w s R 0 w
 store-none = record { size = refl; here = λ c l k. absurd (omega arith); there = λ z c ne k. refl }
 
-pub store-cell : {M s k : ℕ} {R w₀ w : List ℕ} → Inside w₀ M s → Storing M w₀ s R k w → k < width M → Cell w M s k
-store-cell i h l = record { small = i .small; column = l; inside = omega (arith, i .room, h .size) }
+pub store-cell : {M s k : ℕ} {R w₀ w : List ℕ} → Lies w₀ M s → Storing M w₀ s R k w → k < width M → Cell w M s k
+store-cell i h l = record { small = i .small; column = l; inside = omega (arith, i .inside, h .size) }
 
-pub store-more : {M s k v : ℕ} {R w₀ w u : List ℕ} → Inside w₀ M s → k < width M → Storing M w₀ s R k w → v ≡ getD R k 0 → u ≡ putAt M w s k v → Storing M w₀ s R (k + 1) u
+pub store-more : {M s k v : ℕ} {R w₀ w u : List ℕ} → Lies w₀ M s → k < width M → Storing M w₀ s R k w → v ≡ getD R k 0 → u ≡ putAt M w s k v → Storing M w₀ s R (k + 1) u
 store-more {M} {s} {k} {v} {R} {w₀} {w} {u} i l h e p = rw p (record {
   size = put-size M w s k v ∙ h .size;
   here = λ c q m. elim (same? c k) [
-    | same f g ↦ rw g (cell-same M w s k v (omega (arith, i .room, h .size)) ∙ e)
+    | same f g ↦ rw g (cell-same M w s k v (omega (arith, i .inside, h .size)) ∙ e)
     | other f g ↦ cell-other M w s k v s c l m (λ x y. g (sym y)) ∙ h .here c (omega arith) m
   ];
   there = λ z c ne m. cell-other M w s k v z c l m (λ x y. ne (sym x)) ∙ h .there z c ne m;
@@ -47,8 +48,8 @@ store-all l h = record { size = h .size; here = λ c q. h .here c (omega arith) 
 pub fill-none : {L M n : ℕ} {w : List ℕ} → Filled L M n w 0 w
 fill-none = record { size = refl; records = λ s c l k. absurd (omega arith) }
 
-pub fill-inside : {L M n s k : ℕ} {w₀ w : List ℕ} → M ≤ 16 → k ≡ M → length w₀ ≡ 8 + n * (width M) → s < n → Filled L M n w₀ s w → Inside w k s
-fill-inside {L} {M} {n} {s} {k} {w₀} {w} m q e l h = rw q (record { small = m; room = omega (arith, h .size, mul-le-mul-right (width M) l) })
+pub fill-inside : {L M n s k : ℕ} {w₀ w : List ℕ} → M ≤ 16 → k ≡ M → length w₀ ≡ 8 + n * (width M) → s < n → Filled L M n w₀ s w → Lies w k s
+fill-inside {L} {M} {n} {s} {k} {w₀} {w} m q e l h = rw q (record { small = m; inside = omega (arith, h .size, mul-le-mul-right (width M) l) })
 
 pub fill-more : {L M n s k a b e d : ℕ} {w₀ w u : List ℕ} → k ≡ M → Filled L M n w₀ s w → bareWords M a b e d ≡ recordOf (setUp L M (n - L)) s
     → Written k w s (bareWords k a b e d) u → Filled L M n w₀ (s + 1) u
@@ -87,8 +88,6 @@ new-arena {L} {M} {C} {w₀} {w} {u} r f h =
     (h .front)
 
 -- ---- the promise ----
-pub said : {b : Bool} {P : Type 0} → Says b P → b ≡ true → P
-said s e = s .sound (subst T (sym e) tt)
 
 pub accepted : {L M C : ℕ} {w u : List ℕ} → Room L M C (length w) → u ≡ encode (setUp L M C) → SetUpPromise L M C w u 0
 accepted r e = record { wrong = λ n. absurd (n r); right = λ _. (refl, e) }

@@ -1,5 +1,5 @@
 -- Records without links, and what the parts of set-up leave. Rests on model's specs.
-use Prim.Native.Nat.{ℕ, _+_, _-_, _%_, _≤_, _<_}
+use Prim.Native.Nat.{ℕ, _-_, _%_, _<_}
 use mathlib.Core.Path.{_≡_}
 use mathlib.Core.Logic.{_≢_}
 use mathlib.Core.Bool.{cond}
@@ -7,8 +7,8 @@ use mathlib.Core.List.{List, _∷_}
 use lib.Dec.{eqb}
 use lib.ListN.{length, take, drop, getD}
 use Rattle.model.specs.Nodes.{N}
-use Rattle.model.specs.Arena.{headerWords, width, absent, recordOf, setUp}
-use Rattle.model.specs.Cells.{place, cellAt}
+use Rattle.model.specs.Arena.{keyColumn, heightColumn, nextColumn, lastColumn, headerWords, width, absent, recordOf, setUp}
+use Rattle.model.specs.Cells.{cellAt}
 use Rattle.setup.specs.declared.Setup.{Setup}
 use Rattle.setup.specs.declared.Setup.the-variants.{Done, Wrong}
 
@@ -22,12 +22,7 @@ abbrev pub bareWords : ℕ → ℕ → ℕ → ℕ → ℕ → List ℕ
 bareWords M a b e d = a ∷ b ∷ e ∷ d ∷ absent M
 
 abbrev pub bareWord : ℕ → ℕ → ℕ → ℕ → ℕ → ℕ
-bareWord c a b e d = cond (eqb c 0) a (cond (eqb c 1) b (cond (eqb c 2) e (cond (eqb c 3) d (cond (eqb (c % 2) 0) N 0))))
-
--- The record of slot s lies in the slice.
-pub record Inside (w : List ℕ) (m s : ℕ) : Type 0 where
-  pub small : m ≤ 16
-  pub room : place m s + width m ≤ length w
+bareWord c a b e d = cond (eqb c keyColumn) a (cond (eqb c heightColumn) b (cond (eqb c nextColumn) e (cond (eqb c lastColumn) d (cond (eqb (c % 2) 0) N 0))))
 
 -- The record of slot s is R, and every other record is as it was.
 pub record Written (M : ℕ) (before : List ℕ) (s : ℕ) (R : List ℕ) (after : List ℕ) : Type 0 where

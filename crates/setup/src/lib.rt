@@ -4,7 +4,8 @@ ghost use Prim.Native.Nat.{_+_, _-_, _*_, _≤_, _<_};
 ghost use lib.ListN.{length};
 ghost use Rattle.model.specs.Arena.{headerWords, width, header, setUp, recordOf};
 ghost use Rattle.model.specs.Calls.{SetUpPromise};
-ghost use Rattle.setup.specs.Bare.{bareWord, bareWords, Inside, Written, Filled, HeaderSet, numberOf};
+ghost use Rattle.arena.specs.Lies.{Lies};
+ghost use Rattle.setup.specs.Bare.{bareWord, bareWords, Written, Filled, HeaderSet, numberOf};
 use arena::Slot;
 
 pub enum Setup {
@@ -43,7 +44,7 @@ fn bare_word(c: usize, f: Bare) -> u32
 }
 
 fn write_record(w: &mut [u32], m: usize, s: Slot, f: Bare)
-    requires { ⌜ Inside (now w) m (s .0) ⌝ }
+    requires { ⌜ Lies (now w) m (s .0) ⌝ }
     ensures { λ _. ⌜ Written m (now (w .entry)) (s .0) (bareWords m (f .a) (f .b) (f .e) (f .d)) (now (w .exit)) ⌝ }
 {
     let words = arena::width(m);

@@ -2,10 +2,10 @@
 use Prim.Native.Nat.{ℕ, suc, _+_, _-_, _≤_, _<_}
 use mathlib.Core.Path.{_≡_, refl, sym, ap, _∙_}
 use mathlib.Core.Bool.{cond}
-use mathlib.Core.List.{List, [], _∷_, _++_}
+use mathlib.Core.List.{List, [], _++_}
 use lib.Dec.{eqb}
 use lib.ListN.{length, take, getD, set, length-set}
-use lib.Seq.{getD-set-same, getD-set-other, lt-length-set}
+use lib.Seq.{getD-set-same, getD-set-other, lt-length-set, take-all}
 use native.Mathlib.Omega.{arith}
 use borrow.Author.Tests.{le-leb}
 use Rattle.arena.specs.declared.Path.{Path}
@@ -26,10 +26,6 @@ use Rattle.model.proofs.Links.{past}
 use Rattle.model.proofs.Owners.{says-to, says-far}
 use Rattle.model.proofs.Splitting.{SplitLike, hung-split, not-b, b-S}
 use Rattle.split_join.proofs.LinkWords.{fourPuts, links-in, turned-both, to-is, hung-fits, hung-far}
-
-take-all : (xs : List Node) → take (length xs) xs ≡ xs
-take-all [] = refl
-take-all (x ∷ xs) = ap (λ (t : List Node). x ∷ t) (take-all xs)
 
 module _ {w₀ : List ℕ} {m a b : ℕ} (p : Joins w₀ m a b) where
   abbrev S : State
@@ -82,7 +78,7 @@ module _ {w₀ : List ℕ} {m a b : ℕ} (p : Joins w₀ m a b) where
   b-in = omega (arith, p .from .list)
 
   pub stage-of : (h s r : ℕ) → h ≤ m → r ≡ last h (take (length A) A) → s ≡ slotAt a A r → Stage H h s r
-  stage-of h s r l er es = stage-is H h (omega (arith, p .onto .levels)) s r (er ∙ ap (last h) (take-all A)) es
+  stage-of h s r l er es = stage-is H h (omega (arith, p .onto .levels)) s r (er ∙ ap (last h) (take-all (length A) A (omega arith))) es
 
   pub join-start : Relinked S T (take 8 w₀) m 0 w₀
   join-start = relink-start w₀ (p .onto .passes) T m (p .onto .levels)

@@ -1,10 +1,10 @@
 -- The two words of a link: what the head's link of a list that is hung behind another says, while its level is as it was, and what one turn of a
 -- relinking loop stores at two owners. Rests on arena's Relink, model's Owners and spans' Distances.
-use Prim.Native.Nat.{ℕ, zero, suc, _+_, _-_, _≤_, _<_}
+use Prim.Native.Nat.{ℕ, suc, _+_, _-_, _≤_, _<_}
 use mathlib.Core.Path.{_≡_, refl, ap, _∙_}
 use mathlib.Core.Logic.{_≢_}
 use mathlib.Core.Bool.{cond}
-use mathlib.Core.List.{List, [], _∷_}
+use mathlib.Core.List.{List}
 use lib.Dec.{eqb}
 use lib.ListN.{length, getD}
 use native.Mathlib.Omega.{arith}
@@ -12,16 +12,16 @@ use borrow.Author.Tests.{le-leb}
 use Rattle.arena.specs.Owners.{Listed}
 use Rattle.model.specs.Arena.{width, toColumn, farColumn, State, recordOf, slots-of, headWords}
 use Rattle.model.specs.Cells.{putAt, cellAt}
-use Rattle.model.specs.Links.{target, distance, further}
+use Rattle.model.specs.Links.{target, distance}
 use Rattle.model.specs.Nodes.{Node}
 use Rattle.model.specs.Passes.{decode, nodes}
 use Rattle.split_join.specs.Cuts.{LinkIn}
 use Rattle.arena.proofs.Relink.{Relinked, cell-at, cell-o, turned}
+use Rattle.model.proofs.Steps.{distance-le}
 use Rattle.model.proofs.Hang.{Hung, Stage}
 use Rattle.model.proofs.Links.{past}
 use Rattle.model.proofs.Owners.{says-to, says-far}
 use Rattle.model.proofs.Records.{head-words}
-use Rattle.model.proofs.Tests.{hit, miss, test}
 use Rattle.spans.proofs.Distances.{farther-is}
 
 -- the words with level l of slots x and y stored
@@ -46,14 +46,6 @@ module _ {S T : State} {a o : ℕ} {A X Y : List Node} (H : Hung S T a o A X Y) 
   turned-both ne tp dp t d e₁ e₂ e₃ e₄ x ex = turned H on em sm g k st ne tp dp t d e₁ e₂ e₃ e₄ (putAt m (putAt m w s (toColumn l) tp) o (toColumn l) t) refl x ex
 
 -- ---- list b, of which level l is as it was, is hung behind n nodes of another list ----
-distance-le : (h : ℕ) (ys : List Node) → distance h ys ≤ length ys
-distance-le h [] = omega arith
-distance-le h (y ∷ ys) = elim (test h (y .height)) [ hit e p ↦ rw e (omega arith) | miss e p ↦ rw e (one-more (distance h ys) (distance-le h ys)) ]
-  where
-    one-more : (d : ℕ) {n : ℕ} → d ≤ n → further d ≤ suc n
-    one-more zero l = omega arith
-    one-more (suc d) l = omega arith
-
 module _ {w₀ : List ℕ} {m b : ℕ} (p : Listed w₀ m b) {T : State} {fr : List ℕ} {l : ℕ} {w : List ℕ} (g : Relinked (decode w₀) T fr m l w) (k : l < m) where
   abbrev M : ℕ
   M = decode w₀ .levels

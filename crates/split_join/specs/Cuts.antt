@@ -8,8 +8,6 @@ use Rattle.model.specs.Nodes.{Sorted}
 use Rattle.model.specs.Arena.{farColumn, State, listOf, putList}
 use Rattle.model.specs.Cells.{place, cellAt, putAt}
 use Rattle.model.specs.Passes.{nodes}
-use Rattle.model.specs.Arena.{farColumn}
-use Rattle.model.specs.Cells.{place}
 use Rattle.arena.specs.Owners.{Listed}
 
 -- The link of level l of slot s lies in the slice.

@@ -17,7 +17,6 @@ pub use before::join_before;
 use spans::farther;
 use spans::nearer;
 ghost use mathlib.Core.Path.{_≡_};
-ghost use Prim.Native.Nat.{_+_, _*_, _-_, _<_};
 ghost use lib.ListN.{length};
 ghost use Rattle.model.specs.Arena.{toColumn, farColumn, encode};
 ghost use Rattle.model.specs.Calls.{doSplit, doJoin};

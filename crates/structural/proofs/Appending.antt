@@ -15,7 +15,7 @@ use Rattle.split_join.specs.Cuts.{Joins, doBefore}
 use Rattle.structural.specs.Pairs.{Two, doMerge}
 use Rattle.model.proofs.Keeps.{sorted-join, sorted-list}
 use Rattle.model.proofs.Splitting.{withLists}
-use Rattle.structural.proofs.Heads.{empty-is}
+use Rattle.model.proofs.Allowed.{no-length}
 
 -- ---- the nodes ----
 nothing-to-add : (aa bb : List Node) → length bb ≡ 0 → append aa bb ≡ aa
@@ -74,7 +74,7 @@ module _ {w : List ℕ} {m a b : ℕ} (p : Two w m a b) where
   -- "b empty, nothing"
   pub unchanged : length B ≡ 0 → w ≡ encode (doAppend S a b)
   unchanged e =
-      let none : B ≡ [] = empty-is B e in
+      let none : B ≡ [] = no-length B e in
       let same-b : set (S .lists) b [] ≡ S .lists = ap (set (S .lists) b) (sym none) ∙ set-getD (S .lists) b [] in
       let same-a : set (set (S .lists) a A) b [] ≡ S .lists = ap (λ (t : List (List Node)). set t b []) (set-getD (S .lists) a []) ∙ same-b in
       p .first .passes .words ∙ ap encode (

@@ -16,10 +16,6 @@ use Rattle.arena.proofs.Cells.{mix-start, cell-is}
 use Rattle.arena.proofs.Relink.{there}
 use Rattle.model.proofs.Records.{head-words, node-words, slot-of}
 
-pub empty-is : (ys : List Node) → length ys ≡ 0 → ys ≡ []
-empty-is [] e = refl
-empty-is (y ∷ ys) e = absurd (omega arith)
-
 last-at : (y : Node) (ys : List Node) → lastSlot (y ∷ ys) ≡ at (y ∷ ys) (length ys) .slot
 last-at y [] = refl
 last-at y (z ∷ ys) = last-at z ys

@@ -12,10 +12,10 @@ use Rattle.model.specs.Calls.{doInsert, doRemove}
 use Rattle.model.specs.Passes.{decode, nodes, Sound}
 use Rattle.arena.specs.Owners.{Listed}
 use Rattle.structural.specs.Pairs.{Two, doMerge, movedFirst}
+use Rattle.model.proofs.Allowed.{no-length}
 use Rattle.model.proofs.Composing.{merge-step}
 use Rattle.model.proofs.Keeps.{sound-remove, sound-insert, low-list}
 use Rattle.model.proofs.Splitting.{withLists}
-use Rattle.structural.proofs.Heads.{empty-is}
 use Rattle.structural.proofs.Leaving.{Left, left, still-listed}
 
 first-of : (ys : List Node) → 0 < length ys → ys ≡ at ys 0 ∷ drop 1 ys
@@ -123,6 +123,6 @@ merge-done {w₀} {m} {a} {b} {w} g l = g .two .first .passes .words ∙ ap enco
   where
     none : doMerge (decode w) a b ≡ decode w
     none =
-        let e = empty-is (nodes w b) l in
+        let e = no-length (nodes w b) l in
         ap (λ (t : List Node). putList (putList (decode w) a (mergeIn t (nodes w a)) (decode w .free)) b [] (decode w .free)) e
         ∙ ap (withLists (decode w)) (ap (λ (t : List (List Node)). set t b []) (set-getD (decode w .lists) a []) ∙ ap (set (decode w .lists) b) (sym e) ∙ set-getD (decode w .lists) b [])

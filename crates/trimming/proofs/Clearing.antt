@@ -40,14 +40,14 @@ other-column m s c v d w l k ne = cell-other m w s c v s d l k (λ p q. ne (sym 
 
 -- the first words, in words of the same length
 pub cell-in : {w₀ : List ℕ} {m s : ℕ} → NodeAt w₀ m s → {w : List ℕ} → length w ≡ length w₀ → (c : ℕ) → c < 4 → Cell w m s c
-cell-in p e c k = record { small = p .small; column = omega arith; inside = omega (arith, p .inside) }
+cell-in p e c k = record { small = p .lies .small; column = omega arith; inside = omega (arith, p .lies .inside) }
 
 module _ {w₀ : List ℕ} {m s : ℕ} (p : NodeAt w₀ m s) {l : ℕ} {w : List ℕ} (g : Clearing m s l w₀ w) where
   inside : (c : ℕ) → c < width m → 8 + s * (width m) + c < length w
-  inside c k = omega (arith, p .inside, g .size)
+  inside c k = omega (arith, p .lies .inside, g .size)
 
   pub link-in : l < m → Cell w m s (farColumn l)
-  link-in k = record { small = p .small; column = omega arith; inside = inside (farColumn l) (omega arith) }
+  link-in k = record { small = p .lies .small; column = omega arith; inside = inside (farColumn l) (omega arith) }
 
   pub clear-turn : l < m → {x : List ℕ} → x ≡ putAt m (putAt m w s (toColumn l) N) s (farColumn l) 0 → Clearing m s (l + 1) w₀ x
   clear-turn k e = rw e turned

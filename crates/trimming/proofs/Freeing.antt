@@ -7,11 +7,10 @@ use lib.Seq.{drop-cons, take-set-lt}
 use native.Mathlib.Nat.{mul-le-mul-right}
 use native.Mathlib.Numerals.{add-one}
 use native.Mathlib.Omega.{arith}
-use borrow.Author.Tests.{le-leb, lt-leb}
+use borrow.Author.Tests.{lt-leb}
 use Rattle.model.specs.Arena.{width, toColumn, farColumn, State, firstSlot, firstFree, nodeWords, freeWords, absent, recordOf, slots-of, encode}
 use Rattle.model.specs.Calls.{doTruncate}
 use Rattle.model.specs.Cells.{Cell, cellAt}
-use Rattle.model.specs.Links.{target}
 use Rattle.model.specs.Lists.{freed}
 use Rattle.model.specs.Nodes.{Node, node, N, at, slotAt}
 use Rattle.model.specs.Passes.{decode, nodes}
@@ -23,8 +22,9 @@ use Rattle.model.proofs.Records.{head-words, times-mid}
 use Rattle.model.proofs.Tests.{same, other, same?}
 use Rattle.arena.specs.Mixed.{Mix}
 use Rattle.arena.specs.Owners.{Listed, Leaves}
-use Rattle.model.proofs.Columns.{length-encode}
 use Rattle.arena.proofs.Relink.{there, mix-header, relink-end}
+use Rattle.arena.proofs.Places.{has-header}
+use Rattle.model.proofs.Steps.{first-target}
 use Rattle.trimming.specs.Trims.{between, NodeAt, Cleared}
 use Rattle.trimming.proofs.Between.{as-old, as-new, as-before}
 use Rattle.trimming.proofs.Shortened.{nothing-freed, length-freed, slot-in, as-node, once, as-free}
@@ -35,10 +35,6 @@ first-at [] zero = refl
 first-at [] (suc i) = refl
 first-at (x ∷ xs) zero = refl
 first-at (x ∷ xs) (suc i) = first-at xs i
-
-first-target : (ys : List Node) → target 0 ys ≡ firstSlot ys
-first-target [] = refl
-first-target (y ∷ ys) = rw (le-leb 0 (y .height) (omega arith)) refl
 
 module _ {w₀ : List ℕ} {m a n : ℕ} (p : Leaves w₀ m a n) where
   abbrev S : State
@@ -88,12 +84,12 @@ module _ {w₀ : List ℕ} {m a n : ℕ} (p : Leaves w₀ m a n) where
   end-cell {e} ee = old-cell e 2 (end-stage p ee .known) (omega arith)
 
   pub long : 8 ≤ length w₀
-  long = omega (arith, ap length (p .listed .passes .words) ∙ length-encode S)
+  long = has-header w₀ (p .listed .passes)
 
   -- ---- the loop ----
   pub free-start : {e s front : ℕ} → e ≡ slotAt a xs n → s ≡ cellAt m w₀ e 2 → front ≡ getD w₀ 5 0 → {w : List ℕ} → Ended p 0 (width m) w → Freeing n s front w
   free-start {e} {s} ee es ef g = record {
-    slot = es ∙ old-word e 2 (end-stage p ee .known) (omega arith) ∙ end-stage p ee .old-to 2 (says-next (S .levels)) ∙ first-target (drop n xs) ∙ first-at xs n;
+    slot = es ∙ old-word e 2 (end-stage p ee .known) (omega arith) ∙ end-stage p ee .old-to 2 (says-next (S .levels)) ∙ sym (first-target (drop n xs)) ∙ first-at xs n;
     fs = S .free;
     rest = refl;
     first = ef ∙ ap (λ (t : List ℕ). getD t 5 0) (p .listed .passes .words);
@@ -128,8 +124,7 @@ module _ {w₀ : List ℕ} {m a n : ℕ} (p : Leaves w₀ m a n) where
 
       pub node-at : NodeAt w m s
       node-at = rw (g .slot) (record {
-        small = small p;
-        inside = omega (arith, g .mixed .size, mul-le-mul-right (width m) y-in);
+        lies = record { small = small p; inside = omega (arith, g .mixed .size, mul-le-mul-right (width m) y-in) };
         low = omega (arith, word 1 (omega arith), low);
         third = word 3 (omega arith);
         absent = λ k x z.

@@ -1,17 +1,18 @@
--- A truncation: what it asks of words, the words once the links are done, and one record cleared. Rests on model's specs and on arena's Listed and Mix.
-use Prim.Native.Nat.{ℕ, _+_, _≤_, _<_}
+-- A truncation on the way: the words once the links are done, and one record cleared. Rests on model's specs and on arena's Lies and Mix.
+use Prim.Native.Nat.{ℕ, _≤_, _<_}
 use mathlib.Core.Path.{_≡_}
 use mathlib.Core.Logic.{_≢_}
 use mathlib.Core.Bool.{cond}
 use mathlib.Core.List.{List, [], _∷_}
 use lib.Dec.{leb}
-use lib.ListN.{length, take, drop, getD}
+use lib.ListN.{take, drop, getD}
 use Rattle.model.specs.Nodes.{Node}
 use Rattle.model.specs.Arena.{headerWords, width, toColumn, heightColumn, lastColumn, State, freeWords, recordOf, slots-of}
 use Rattle.model.specs.Calls.{doTruncate}
-use Rattle.model.specs.Cells.{place, cellAt}
+use Rattle.model.specs.Cells.{cellAt}
 use Rattle.model.specs.Passes.{decode, nodes, times, Absent}
 use Rattle.arena.specs.Mixed.{Mix}
+use Rattle.arena.specs.Lies.{Lies}
 
 -- The records while the nodes `ys` are still to be freed: theirs are as in S, all others as in T.
 unfoldable pub between : State → State → List Node → ℕ → List ℕ
@@ -24,8 +25,7 @@ pub record Unlinked (before : List ℕ) (m a n : ℕ) (after : List ℕ) : Type 
 
 -- The record of slot s lies in the slice and has a node's form.
 pub record NodeAt (w : List ℕ) (m s : ℕ) : Type 0 where
-  pub small : m ≤ 16
-  pub inside : place m s + width m ≤ length w
+  pub lies : Lies w m s
   pub low : cellAt m w s heightColumn ≤ m
   pub third : cellAt m w s lastColumn ≡ 0
   pub absent : (l : ℕ) → cellAt m w s heightColumn ≤ l → l < m → Absent m w s l

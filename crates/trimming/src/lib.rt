@@ -20,7 +20,6 @@ use arena::put_header;
 use arena::wide;
 ghost use mathlib.Core.Path.{_≡_};
 ghost use mathlib.Core.Bool.{cond};
-ghost use Prim.Native.Nat.{_+_, _*_};
 ghost use lib.Dec.{eqb};
 ghost use Rattle.model.specs.Nodes.{N};
 ghost use Rattle.model.specs.Arena.{toColumn, farColumn, countColumn, nextColumn, lastColumn, encode};

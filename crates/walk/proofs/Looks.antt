@@ -6,14 +6,13 @@ use mathlib.Core.List.{List, [], _∷_}
 use lib.ListN.{length, drop, getD, length-drop}
 use lib.Seq.{getD-drop}
 use native.Mathlib.Omega.{arith}
-use borrow.Author.Tests.{le-leb}
 use Rattle.model.specs.Nodes.{Node, node, N, at, keyAt, slotAt}
-use Rattle.model.specs.Links.{further, distance, target}
-use Rattle.model.specs.Arena.{width, toColumn, farColumn, firstSlot}
+use Rattle.model.specs.Links.{distance, target}
+use Rattle.model.specs.Arena.{width, toColumn, farColumn}
 use Rattle.model.specs.Cells.{Cell, cellAt, recordAt}
 use Rattle.model.specs.Passes.{decode, nodes}
 use Rattle.model.proofs.Tests.{hit, miss, test}
-use Rattle.model.proofs.Steps.{further-one, target-at}
+use Rattle.model.proofs.Steps.{further-zero, further-one, target-at, first-target}
 use Rattle.model.proofs.Columns.{cell-record}
 use Rattle.model.proofs.Counting.{list-few}
 use Rattle.arena.specs.Owners.{Owner, Listed}
@@ -33,16 +32,8 @@ target-none : (h : ℕ) (ys : List Node) → distance h ys ≡ 0 → target h ys
 target-none h [] e = refl
 target-none h (y ∷ ys) e = elim (test h (y .height)) [
   | hit f p ↦ absurd (omega (arith, rw f at e))
-  | miss f p ↦ rw f (target-none h ys (un (distance h ys) (rw f at e)))
+  | miss f p ↦ rw f (target-none h ys (further-zero (distance h ys) (rw f at e)))
 ]
-  where
-    un : (d : ℕ) → further d ≡ 0 → d ≡ 0
-    un zero e = refl
-    un (suc d) e = omega arith
-
-first-target : (ys : List Node) → firstSlot ys ≡ target 0 ys
-first-target [] = refl
-first-target (y ∷ ys) = rw (le-leb 0 (y .height) (omega arith)) refl
 
 -- what a look at the link of stage h finds: nothing, or the owner that it goes to
 pub data Look (w : List ℕ) (a r h : ℕ) (to : ℕ) : Type 0 where

@@ -17,8 +17,8 @@ use Rattle.walk.specs.declared.Trail.{Trail}
 use Rattle.walk.specs.Standing.{At, Sought}
 
 -- Where a link leads: nowhere, or to a slot whose key can be read.
-abbrev pub Ahead : List ℕ → ℕ → ℕ → Type 0
-Ahead w m to = (to ≡ N → ⊥) → Cell w m to keyColumn
+abbrev pub Readable : List ℕ → ℕ → ℕ → Type 0
+Readable w m to = (to ≡ N → ⊥) → Cell w m to keyColumn
 
 -- The key of the bound is not below t.
 abbrev pub Bound : List ℕ → ℕ → ℕ → ℕ → Type 0

@@ -6,7 +6,7 @@ ghost use Rattle.model.specs.Arena.{keyColumn};
 ghost use Rattle.model.specs.Cells.{cellAt};
 ghost use Rattle.arena.specs.Owners.{Listed};
 ghost use Rattle.arena.specs.Says.{Says};
-ghost use Rattle.walk.specs.Trails.{Ahead, Begun, Stopped, Trailed};
+ghost use Rattle.walk.specs.Trails.{Readable, Begun, Stopped, Trailed};
 use crate::Outcome;
 use crate::Stop;
 use crate::Tracer;
@@ -22,7 +22,7 @@ use arena::Slot;
 
 // Whether a link leads to a key that is smaller: it is not absent, and slot `to` has such a key.
 fn smaller(w: &[u32], m: usize, to: Slot, key: u32) -> bool
-    requires { ⌜ Ahead (now w) m (to .0) ⌝ }
+    requires { ⌜ Readable (now w) m (to .0) ⌝ }
     ensures { λ r. ⌜ Says r ((to .0 < N) × (cellAt m (now (w .entry)) (to .0) keyColumn < key)) ⌝ }
 {
     if to.0 == Slot::NONE.0 {

@@ -1,15 +1,16 @@
 -- `insert_remove::insert_before` meets its contract: the words read are those of the model, and the links, the columns and the header make the new one.
 use mathlib.Core.Path.{_∙_}
 use native.Mathlib.Omega.{arith}
-use Rattle.insert_remove.proofs.InsertWhole.{first-is, long, cell-free, cell-head, count-fits, some-free, cell-end, all-lie, insert-done}
+use Rattle.insert_remove.proofs.InsertWhole.{first-is, cell-free, cell-head, count-fits, some-free, cell-end, all-lie, insert-done}
 use Rattle.insert_remove.proofs.insert_before.Statement.{statement}
 use Rattle.insert_remove.proofs.insert_before.Tie as tie
+use Rattle.arena.proofs.Places.{has-header}
 
 header-requires : tie.Need-header-requires
-header-requires c κs = (omega arith, long _ (c .before .before .pre .0 .listed .passes))
+header-requires c κs = (omega arith, has-header _ (c .before .before .pre .0 .listed .passes))
 
 header-requires-2 : tie.Need-header-requires-2
-header-requires-2 c κs = (omega arith, long _ (c .before .before .before .before .pre .0 .listed .passes))
+header-requires-2 c κs = (omega arith, has-header _ (c .before .before .before .before .pre .0 .listed .passes))
 
 cell-requires : tie.Need-cell-requires
 cell-requires c κs = cell-free (c .before .before .before .before .before .before .pre .0) (c .before .before .before .header .ensures)
@@ -39,7 +40,7 @@ sub-put-free : tie.Need-sub-put-free
 sub-put-free c = some-free (c .before .before .before .before .before .before .before .before .before .before .before .before .before .before .before .before .before .before .before .before .before .before .before .before .pre .0) (c .before .before .before .before .before .before .before .before .before .before .before .before .before .before .before .before .before .before .before .header2 .ensures)
 
 put-free-requires : tie.Need-put-free-requires
-put-free-requires c κs = omega (arith, long _ (c .before .before .before .before .before .before .before .before .before .before .before .before .before .before .before .before .before .before .before .before .before .before .before .before .pre .0 .listed .passes), c .before .before .before .put-columns .kept .0, c .before .before .before .before .before .before .before .insert-links .kept .0)
+put-free-requires c κs = omega (arith, has-header _ (c .before .before .before .before .before .before .before .before .before .before .before .before .before .before .before .before .before .before .before .before .before .before .before .before .pre .0 .listed .passes), c .before .before .before .put-columns .kept .0, c .before .before .before .before .before .before .before .insert-links .kept .0)
 
 same-length : tie.Need-same-length
 same-length c = omega (arith, c .before .before .put-free .kept .0, c .before .before .before .before .before .before .put-columns .kept .0, c .before .before .before .before .before .before .before .before .before .before .insert-links .kept .0)

@@ -1,24 +1,25 @@
 -- `setup::set_up` meets its contract: a slice that fits is filled record by record, then its header; any other is left alone.
 use native.Mathlib.Omega.{arith}
-use Rattle.setup.proofs.Filling.{said, new-arena, accepted, refused}
+use Rattle.setup.proofs.Filling.{new-arena, accepted, refused}
 use borrow.Author.Needs.{needs}
 use Rattle.setup.proofs.set_up.Statement.{statement}
 use Rattle.setup.proofs.set_up.Tie as tie
+use Rattle.arena.proofs.Saying.{yes}
 
 fits-requires : tie.Need-fits-requires
 fits-requires c κs = search needs
 
 add-write-records : tie.Need-add-write-records
-add-write-records c = omega (arith, said (c .before .before .fits2 .ensures) (c .before .if1 .taken) .ranges)
+add-write-records c = omega (arith, yes (c .before .before .fits2 .ensures) (c .before .if1 .taken) .ranges)
 
 write-records-requires : tie.Need-write-records-requires
 write-records-requires c κs =
-    let r = said (c .before .before .fits2 .ensures) (c .before .if1 .taken) in
+    let r = yes (c .before .before .fits2 .ensures) (c .before .if1 .taken) in
     (omega (arith, r .ranges), r .size)
 
 write-header-requires : tie.Need-write-header-requires
 write-header-requires c κs =
-    let r = said (c .before .before .before .before .before .before .fits2 .ensures) (c .before .before .before .before .before .if1 .taken) in
+    let r = yes (c .before .before .before .before .before .before .fits2 .ensures) (c .before .before .before .before .before .if1 .taken) in
     omega (arith, r .ranges, r .size, c .before .before .before .write-records .ensures .size)
 
 same-length : tie.Need-same-length
@@ -26,7 +27,7 @@ same-length c = search needs
 
 returns : tie.Need-returns
 returns c =
-    let r = said (c .before .before .before .before .before .before .before .before .before .fits2 .ensures) (c .before .before .before .before .before .before .before .before .if1 .taken) in
+    let r = yes (c .before .before .before .before .before .before .before .before .before .fits2 .ensures) (c .before .before .before .before .before .before .before .before .if1 .taken) in
     accepted r (new-arena r (c .before .before .before .before .before .before .write-records .ensures) (c .before .before .write-header .ensures))
 
 returns-2 : tie.Need-returns-2

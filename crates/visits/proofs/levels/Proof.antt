@@ -1,15 +1,13 @@
 -- `visits::levels` meets its contract: the words are those of their model, which has a list.
-use mathlib.Core.Path.{ap, _∙_}
+use mathlib.Core.Path.{_∙_}
 use native.Mathlib.Omega.{arith}
 use borrow.Author.Needs.{needs}
-use Rattle.model.specs.Passes.{decode}
-use Rattle.model.proofs.Columns.{length-encode}
+use Rattle.arena.proofs.Places.{has-header}
 use Rattle.visits.proofs.levels.Statement.{statement}
 use Rattle.visits.proofs.levels.Tie as tie
-use lib.ListN.{length}
 
 header-requires : tie.Need-header-requires
-header-requires c κs = let p = c .before .pre in (omega arith, omega (arith, ap length (p .words) ∙ length-encode (decode (c .before .args .w .now))))
+header-requires c κs = let p = c .before .pre in (omega arith, has-header _ p)
 
 wide-requires : tie.Need-wide-requires
 wide-requires c κs = search needs

@@ -2,7 +2,7 @@
 use Prim.Native.Nat.{ℕ, _-_}
 use native.Mathlib.Omega.{arith}
 use borrow.Author.Needs.{needs}
-use Rattle.arena_check.specs.Answers.{Below}
+use Rattle.arena_check.specs.Below.{Below}
 use Rattle.arena_check.specs.Sizes.{Differ}
 use Rattle.arena_check.proofs.Levels.{Upto, upto-none, below-next, below-no, below-all}
 use Rattle.arena_check.proofs.heads.lasts_apart.Statement.{statement}

@@ -3,7 +3,8 @@ use mathlib.Core.Path.{refl}
 use native.Mathlib.Omega.{arith}
 use mathlib.Core.Path.{_∙_}
 use Rattle.model.specs.Calls.{splitKey}
-use Rattle.checked.proofs.Rows.{no-list, no-second, same-list, not-empty, no-nodes, receives, accepts}
+use Rattle.model.proofs.Allowed.{no-length}
+use Rattle.checked.proofs.Rows.{no-list, no-second, same-list, not-empty, receives, accepts}
 use borrow.Author.Needs.{needs}
 use Rattle.checked.proofs.cutting.split_key.Statement.{statement}
 use Rattle.checked.proofs.cutting.split_key.Tie as tie
@@ -45,7 +46,7 @@ returns-4 : tie.Need-returns-4
 returns-4 c = not-empty (c .before .before .before .before .before .before .before .before .before .before .before .before .before .before .before .before .before .pre) _ (c .before .before .before .before .before .before .before .before .before .before .before .before .before .before .before .before .before .args .from .0) (c .before .before .before .before .before .before .before .before .before .before .before .before .before .before .before .before .before .args .to .0) _ refl (omega arith) (omega arith) (c .before .before .before .before .before .if3 .left) (λ z. c .if4 .taken (c .before .length .ensures ∙ z))
 
 split-key-requires : tie.Need-split-key-requires
-split-key-requires c κs = (record { first = record { passes = c .before .before .before .before .before .before .before .before .before .before .before .before .before .before .before .before .before .before .pre; levels = c .before .before .before .before .levels .ensures; list = omega arith }; second = record { passes = c .before .before .before .before .before .before .before .before .before .before .before .before .before .before .before .before .before .before .pre; levels = c .before .before .before .before .levels .ensures; list = omega arith }; apart = c .before .before .before .before .before .before .if3 .left }, no-nodes _ (omega arith))
+split-key-requires c κs = (record { first = record { passes = c .before .before .before .before .before .before .before .before .before .before .before .before .before .before .before .before .before .before .pre; levels = c .before .before .before .before .levels .ensures; list = omega arith }; second = record { passes = c .before .before .before .before .before .before .before .before .before .before .before .before .before .before .before .before .before .before .pre; levels = c .before .before .before .before .levels .ensures; list = omega arith }; apart = c .before .before .before .before .before .before .if3 .left }, no-length _ (omega arith))
 
 same-length-5 : tie.Need-same-length-5
 same-length-5 c = search needs
