@@ -21,15 +21,17 @@ same-length c = search needs
 
 returns : tie.Need-returns
 returns c =
-    let r = c .before .before .before .before .before .remove-key .ensures in
-    (ap (λ (x : Removed). removedOf x .key) (sym (c .before .k .given .1)) ∙ ap (λ (x : Answer). x .key) (r .told), r .words)
+    let (after-remove-key, after-k) : tie.After-remove-key × tie.After-k = search in
+    let r = after-remove-key .remove-key .ensures in
+    (ap (λ (x : Removed). removedOf x .key) (sym (after-k .k .given .1)) ∙ ap (λ (x : Answer). x .key) (r .told), r .words)
 
 same-length-2 : tie.Need-same-length-2
 same-length-2 c = search needs
 
 returns-2 : tie.Need-returns-2
 returns-2 c =
-    let r = c .before .before .before .before .remove-key .ensures in
+    let after-remove-key : tie.After-remove-key = search in
+    let r = after-remove-key .remove-key .ensures in
     (ap (λ (x : Removed). removedOf x .key) (sym (c .enum-told .given .1)) ∙ ap (λ (x : Answer). x .key) (r .told), r .words)
 
 pub core-remove-key-spec : {M : Type 1} → statement M

@@ -20,13 +20,19 @@ enum-told : tie.Need-enum-told
 enum-told c = search needs
 
 returns : tie.Need-returns
-returns c = ap (λ (x : Searched). answerOf x .place) (sym (c .before .i .given .1)) ∙ ap (λ (x : Answer). x .place) (c .before .before .before .search .ensures)
+returns c =
+    let (after-search, after-i) : tie.After-search × tie.After-i = search in
+    ap (λ (x : Searched). answerOf x .place) (sym (after-i .i .given .1)) ∙ ap (λ (x : Answer). x .place) (after-search .search .ensures)
 
 returns-2 : tie.Need-returns-2
-returns-2 c = ap (λ (x : Searched). answerOf x .place) (sym (c .before .i2 .given .1)) ∙ ap (λ (x : Answer). x .place) (c .before .before .before .search .ensures)
+returns-2 c =
+    let (after-search, after-i2) : tie.After-search × tie.After-i2 = search in
+    ap (λ (x : Searched). answerOf x .place) (sym (after-i2 .i2 .given .1)) ∙ ap (λ (x : Answer). x .place) (after-search .search .ensures)
 
 returns-3 : tie.Need-returns-3
-returns-3 c = ap (λ (x : Searched). answerOf x .place) (sym (c .enum-told .given .1)) ∙ ap (λ (x : Answer). x .place) (c .before .before .search .ensures)
+returns-3 c =
+    let after-search : tie.After-search = search in
+    ap (λ (x : Searched). answerOf x .place) (sym (c .enum-told .given .1)) ∙ ap (λ (x : Answer). x .place) (after-search .search .ensures)
 
 pub core-search-spec : {M : Type 1} → statement M
 core-search-spec =

@@ -17,7 +17,9 @@ array-share-prefix-w : tie.Need-array-share-prefix-w
 array-share-prefix-w c = search needs
 
 slice-aggregate-said-2 : tie.Need-slice-aggregate-said-2
-slice-aggregate-said-2 c = sym (length-take-le {A = ℕ} 79 (c .before .before .sample .result) (omega (arith, c .before .before .sample .ensures)))
+slice-aggregate-said-2 c =
+    let after-sample : tie.After-sample = search in
+    sym (length-take-le {A = ℕ} 79 (after-sample .sample .result) (omega (arith, after-sample .sample .ensures)))
 
 said-requires : tie.Need-said-requires
 said-requires c κs = search needs
@@ -29,7 +31,9 @@ array-share-prefix-w-2 : tie.Need-array-share-prefix-w-2
 array-share-prefix-w-2 c = search needs
 
 slice-aggregate-said-4 : tie.Need-slice-aggregate-said-4
-slice-aggregate-said-4 c = sym (length-take-le {A = ℕ} 7 (c .before .before .before .before .before .sample .result) (omega (arith, c .before .before .before .before .before .sample .ensures)))
+slice-aggregate-said-4 c =
+    let after-sample : tie.After-sample = search in
+    sym (length-take-le {A = ℕ} 7 (after-sample .sample .result) (omega (arith, after-sample .sample .ensures)))
 
 said-requires-2 : tie.Need-said-requires-2
 said-requires-2 c κs = search needs

@@ -11,7 +11,9 @@ last-word-requires : tie.Need-last-word-requires
 last-word-requires c κs = tt
 
 returns : tie.Need-returns
-returns c = rw (eq-eqb _ _ (sym (c .before .before .from-index .ensures) ∙ c .before .if1 .taken)) (c .last-word .ensures)
+returns c =
+    let (rank, then1) : tie.After-from-index × tie.Then1 = search in
+    rw (eq-eqb _ _ (sym (rank .from-index .ensures) ∙ then1 .if1 .taken)) (c .last-word .ensures)
 
 returns-2 : tie.Need-returns-2
 returns-2 c = rw (ne-eqb _ _ (λ z. c .if1 .left (c .before .from-index .ensures ∙ z))) refl

@@ -17,7 +17,13 @@ same-length : tie.Need-same-length
 same-length c = search needs
 
 returns : tie.Need-returns
-returns c = c .before .before .put-header2 .ensures ∙ ap (λ (u : List ℕ). set u 6 (c .before .before .before .before .before .before .before .before .before .args .count)) (c .before .before .before .before .before .before .put-header .ensures)
+returns c =
+    let known : record {
+      start : tie.Start;
+      after-put-header : tie.After-put-header;
+      after-put-header2 : tie.After-put-header2;
+    } = search in
+    known .after-put-header2 .put-header2 .ensures ∙ ap (λ (u : List ℕ). set u 6 (known .start .args .count)) (known .after-put-header .put-header .ensures)
 
 pub put-free-spec : {M : Type 1} → statement M
 put-free-spec = tie.close (tie.spec put-header-requires put-header-requires-2 same-length returns)

@@ -1,4 +1,5 @@
 -- `levelling::height_of` meets its contract: what is counted and what is left of the halving make the whole.
+use borrow.Author.Needs.{needs}
 use Prim.Native.Nat.{_+_}
 use mathlib.Core.Path.{_≡_}
 use native.Mathlib.Omega.{arith}
@@ -17,20 +18,23 @@ loop-holds : tie.Need-loop-holds Inv-loop μ-loop
 loop-holds c = (omega arith, omega arith)
 
 returns : tie.Need-returns Inv-loop μ-loop
-returns c = omega (arith, odd-stop (c .before .before .loop .left) (c .before .before .loop .rest) (c .before .loop-test .taken) (c .if1 .taken), c .before .before .loop .inv .0)
+returns c =
+    let (at-loop, in-loop) : tie.At-loop Inv-loop μ-loop × tie.In-loop Inv-loop μ-loop = search in
+    omega (arith, odd-stop (at-loop .loop .left) (at-loop .loop .rest) (in-loop .loop-test .taken) (c .if1 .taken), at-loop .loop .inv .0)
 
 sub-left : tie.Need-sub-left Inv-loop μ-loop
-sub-left c = omega (arith, c .before .loop-test .taken)
+sub-left c = search needs
 
 add-h : tie.Need-add-h Inv-loop μ-loop
-add-h c = omega (arith, c .before .before .before .pre, c .before .before .loop .inv .1)
+add-h c = search needs
 
 loop-less : tie.Need-loop-less Inv-loop μ-loop
-loop-less c = omega (arith, c .before .loop-test .taken)
+loop-less c = search needs
 
 loop-again : tie.Need-loop-again Inv-loop μ-loop
 loop-again c =
-    (omega (arith, even-turn (c .before .before .loop .left) (c .before .before .loop .rest) (c .before .loop-test .taken) (c .if1 .left), c .before .before .loop .inv .0), omega (arith, c .before .loop-test .taken, c .before .before .loop .inv .1))
+    let (at-loop, in-loop) : tie.At-loop Inv-loop μ-loop × tie.In-loop Inv-loop μ-loop = search in
+    (omega (arith, even-turn (at-loop .loop .left) (at-loop .loop .rest) (in-loop .loop-test .taken) (c .if1 .left), at-loop .loop .inv .0), omega (arith, in-loop .loop-test .taken, at-loop .loop .inv .1))
 
 returns-2 : tie.Need-returns-2 Inv-loop μ-loop
 returns-2 c = omega (arith, none-left (c .before .loop .left) (c .before .loop .rest) (c .loop-test .left), c .before .loop .inv .0)

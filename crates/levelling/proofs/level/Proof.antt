@@ -1,9 +1,10 @@
 -- `levelling::level` meets its contract: after i turns the first i nodes are levelled, and the path leads to index i.
+use borrow.Author.Needs.{needs}
 use Prim.Native.Nat.{_-_}
 use mathlib.Core.Path.{refl}
 use native.Mathlib.Omega.{arith}
 use Rattle.model.proofs.Levels.{twos-le}
-use Rattle.levelling.proofs.Whole.{Levelling, small, cell-count, few, all-done, next-leaves, level-start, level-turn}
+use Rattle.levelling.proofs.Whole.{Levelling, cell-count, all-done, next-leaves, level-start, level-turn}
 use Rattle.levelling.proofs.level.Statement.{statement}
 use Rattle.levelling.proofs.level.Tie as tie
 
@@ -13,33 +14,56 @@ Inv-loop w₀ m list n path₀ i₀ w path i = Levelling w₀ m (list .0) n i w 
 abbrev μ-loop : tie.MeasureT-loop
 μ-loop w₀ m list n path₀ i₀ w path i = n - i
 
+-- the places that the answers cite
+abbrev Start : Type 0
+Start = tie.Start Inv-loop μ-loop
+
 cell-requires : tie.Need-cell-requires Inv-loop μ-loop
-cell-requires c κs = cell-count (c .before .before .pre)
+cell-requires c κs =
+    let start : Start = search in
+    cell-count (start .pre)
 
 loop-holds : tie.Need-loop-holds Inv-loop μ-loop
-loop-holds c = level-start (c .before .before .before .pre) (c .cell .ensures) refl refl refl
+loop-holds c =
+    let start : Start = search in
+    level-start (start .pre) (c .cell .ensures) refl refl refl
 
 from-index-requires : tie.Need-from-index-requires Inv-loop μ-loop
-from-index-requires c κs = omega (arith, c .loop-test .taken, few (c .before .loop .inv .listed), c .before .loop .inv .count)
+from-index-requires c κs = search needs
 
 height-of-requires : tie.Need-height-of-requires Inv-loop μ-loop
-height-of-requires c κs = small (c .before .before .before .before .before .before .pre)
+height-of-requires c κs = search needs
 
 relevel-requires : tie.Need-relevel-requires Inv-loop μ-loop
 relevel-requires c κs =
-    (next-leaves (c .before .before .before .before .loop .inv) (c .before .before .before .loop-test .taken), (c .before .before .before .before .loop .inv .leads, (c .before .before .before .before .loop .inv .full, omega (arith, c .before .height-of .ensures, twos-le (c .before .before .before .before .before .before .before .before .args .m) (c .before .before .from-index .result .0)))))
+    let known : record {
+      start : Start;
+      at-loop : tie.At-loop Inv-loop μ-loop;
+      in-loop : tie.In-loop Inv-loop μ-loop;
+      after-from-index : tie.After-from-index Inv-loop μ-loop;
+      h : tie.After-height-of Inv-loop μ-loop;
+    } = search in
+    (next-leaves (known .at-loop .loop .inv) (known .in-loop .loop-test .taken), (known .at-loop .loop .inv .leads, (known .at-loop .loop .inv .full, omega (arith, known .h .height-of .ensures, twos-le (known .start .args .m) (known .after-from-index .from-index .result .0)))))
 
 add-i : tie.Need-add-i Inv-loop μ-loop
-add-i c = omega (arith, c .before .before .before .before .before .before .loop-test .taken, few (c .before .before .before .before .before .before .before .loop .inv .listed), c .before .before .before .before .before .before .before .loop .inv .count)
+add-i c = search needs
 
 loop-less : tie.Need-loop-less Inv-loop μ-loop
-loop-less c = omega (arith, c .before .before .before .before .before .before .loop-test .taken)
+loop-less c = search needs
 
 loop-again : tie.Need-loop-again Inv-loop μ-loop
-loop-again c = level-turn (c .before .before .before .before .before .before .before .loop .inv) (c .before .before .before .before .before .before .loop-test .taken) (c .before .before .before .before .before .from-index .ensures) (c .before .before .before .before .height-of .ensures) (c .before .before .relevel .ensures) (c .before .before .relevel .kept .0)
+loop-again c =
+    let known : record {
+      at-loop : tie.At-loop Inv-loop μ-loop;
+      in-loop : tie.In-loop Inv-loop μ-loop;
+      after-from-index : tie.After-from-index Inv-loop μ-loop;
+      h : tie.After-height-of Inv-loop μ-loop;
+      after-relevel : tie.After-relevel Inv-loop μ-loop;
+    } = search in
+    level-turn (known .at-loop .loop .inv) (known .in-loop .loop-test .taken) (known .after-from-index .from-index .ensures) (known .h .height-of .ensures) (known .after-relevel .relevel .ensures) (known .after-relevel .relevel .kept .0)
 
 same-length : tie.Need-same-length Inv-loop μ-loop
-same-length c = c .before .loop .inv .size
+same-length c = search needs
 
 returns : tie.Need-returns Inv-loop μ-loop
 returns c = all-done (c .before .loop .inv) (c .loop-test .left)

@@ -1,4 +1,5 @@
 -- `levelling::pass` meets its contract: after l turns the first l precursors are the node.
+use borrow.Author.Needs.{needs}
 use Prim.Native.Nat.{_-_, _≤_}
 use mathlib.Core.Path.{refl}
 use native.Mathlib.Omega.{arith}
@@ -13,29 +14,32 @@ abbrev μ-loop : tie.MeasureT-loop
 μ-loop slot h slots₀ ranks₀ s r l₀ slots ranks l = h - l
 
 loop-holds : tie.Need-loop-holds Inv-loop μ-loop
-loop-holds c = (none-filled _ _ (c .before .before .pre .0 .slots), (none-filled _ _ (c .before .before .pre .0 .ranks), omega arith))
+loop-holds c =
+    let start : tie.Start Inv-loop μ-loop = search in
+    (none-filled _ _ (start .pre .0 .slots), (none-filled _ _ (start .pre .0 .ranks), omega arith))
 
 mul-slots : tie.Need-mul-slots Inv-loop μ-loop
-mul-slots c = omega (arith, c .loop-test .taken, c .before .before .before .before .pre .1)
+mul-slots c = search needs
 
 array-write-slots : tie.Need-array-write-slots Inv-loop μ-loop
-array-write-slots c = omega (arith, c .loop-test .taken, c .before .before .before .before .pre .1, c .before .loop .inv .0 .size)
+array-write-slots c = search needs
 
 mul-ranks : tie.Need-mul-ranks Inv-loop μ-loop
-mul-ranks c = omega (arith, c .loop-test .taken, c .before .before .before .before .pre .1)
+mul-ranks c = search needs
 
 array-write-ranks : tie.Need-array-write-ranks Inv-loop μ-loop
-array-write-ranks c = omega (arith, c .loop-test .taken, c .before .before .before .before .pre .1, c .before .loop .inv .1 .0 .size)
+array-write-ranks c = search needs
 
 add-l : tie.Need-add-l Inv-loop μ-loop
-add-l c = omega (arith, c .loop-test .taken, c .before .before .before .before .pre .1)
+add-l c = search needs
 
 loop-less : tie.Need-loop-less Inv-loop μ-loop
 loop-less c = omega (arith, c .loop-test .taken)
 
 loop-again : tie.Need-loop-again Inv-loop μ-loop
 loop-again c =
-    (one-filled (omega (arith, c .loop-test .taken, c .before .before .before .before .pre .1)) (c .before .loop .inv .0), (one-filled (omega (arith, c .loop-test .taken, c .before .before .before .before .pre .1)) (c .before .loop .inv .1 .0), omega (arith, c .loop-test .taken)))
+    let (start, at-loop) : tie.Start Inv-loop μ-loop × tie.At-loop Inv-loop μ-loop = search in
+    (one-filled (omega (arith, c .loop-test .taken, start .pre .1)) (at-loop .loop .inv .0), (one-filled (omega (arith, c .loop-test .taken, start .pre .1)) (at-loop .loop .inv .1 .0), omega (arith, c .loop-test .taken)))
 
 returns : tie.Need-returns Inv-loop μ-loop
 returns c = record {

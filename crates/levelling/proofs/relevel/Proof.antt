@@ -1,38 +1,50 @@
 -- `levelling::relevel` meets its contract: the freed slot is the first free one, so that the node comes back in its slot.
-use mathlib.Core.Path.{_∙_}
+use borrow.Author.Needs.{needs}
 use native.Mathlib.Omega.{arith}
 use Rattle.insert_remove.proofs.RemoveWhole.{place-fits, cell-end, out-is}
 use Rattle.levelling.proofs.OneNode.{leads-out, enters-again, as-levelled, relevelled}
-use Rattle.levelling.proofs.Whole.{small}
 use Rattle.levelling.proofs.relevel.Statement.{statement}
 use Rattle.levelling.proofs.relevel.Tie as tie
 
 cell-requires : tie.Need-cell-requires
-cell-requires c κs = cell-end (c .before .before .pre .0) (c .before .before .pre .1 .0 .end)
+cell-requires c κs =
+    let start : tie.Start = search in
+    cell-end (start .pre .0) (start .pre .1 .0 .end)
 
 remove-after-requires : tie.Need-remove-after-requires
-remove-after-requires c κs = (c .before .before .before .before .pre .0, c .before .before .before .before .pre .1 .0)
+remove-after-requires c κs = search needs
 
 insert-before-requires : tie.Need-insert-before-requires
 insert-before-requires c κs =
-    (enters-again (c .before .before .before .before .before .before .before .before .pre .0) (c .before .before .before .before .before .before .before .before .pre .1 .1 .1) (c .before .before .before .remove-after .ensures .0) (c .before .before .before .remove-after .ensures .1), leads-out (c .before .before .before .before .before .before .before .before .pre .0) (c .before .before .before .before .before .before .before .before .pre .1 .1 .1) (c .before .before .before .remove-after .ensures .0) (c .before .before .before .before .before .before .before .before .pre .1 .0))
+    let (start, key) : tie.Start × tie.After-remove-after = search in
+    (enters-again (start .pre .0) (start .pre .1 .1 .1) (key .remove-after .ensures .0) (key .remove-after .ensures .1), leads-out (start .pre .0) (start .pre .1 .1 .1) (key .remove-after .ensures .0) (start .pre .1 .0))
 
 from-index-requires : tie.Need-from-index-requires
-from-index-requires c κs = omega (arith, place-fits (c .before .before .before .before .before .before .before .before .before .before .before .pre .0))
+from-index-requires c κs =
+    let start : tie.Start = search in
+    omega (arith, place-fits (start .pre .0))
 
 wide-requires : tie.Need-wide-requires
 wide-requires c κs = tt
 
 pass-requires : tie.Need-pass-requires
-pass-requires c κs = (c .before .before .before .before .before .before .before .before .before .before .before .before .before .pre .1 .1 .0, omega (arith, c .wide .ensures, c .before .before .before .before .before .before .before .before .before .before .before .before .before .pre .1 .1 .1, small (c .before .before .before .before .before .before .before .before .before .before .before .before .before .pre .0 .listed)))
+pass-requires c κs = search needs
 
 same-length : tie.Need-same-length
-same-length c = c .before .before .before .before .before .insert-before .kept .0 ∙ c .before .before .before .before .before .before .before .before .before .remove-after .kept .0
+same-length c = search needs
 
 returns : tie.Need-returns
 returns c =
-    relevelled (c .before .before .before .before .before .before .before .before .before .before .before .before .before .before .pre .0) (c .before .before .before .before .before .before .before .before .before .before .before .before .before .before .pre .1 .1 .1) (as-levelled (c .before .before .before .before .before .before .before .before .before .before .before .before .before .before .pre .0) (c .before .before .before .before .before .before .before .before .before .before .before .before .before .before .pre .1 .1 .1) (c .before .before .before .before .before .before .before .before .before .remove-after .ensures .0) (c .before .before .before .before .before .before .before .before .before .remove-after .ensures .1) (c .before .before .before .before .before .insert-before .ensures))
-    (c .before .before .before .before .before .before .before .before .before .before .before .before .before .before .pre .1 .0) (out-is (c .before .before .before .before .before .before .before .before .before .before .before .before .before .before .pre .0) (c .before .before .before .before .before .before .before .before .before .before .before .before .before .before .pre .1 .0 .end) (c .before .before .before .before .before .before .before .before .before .before .before .cell .ensures)) (c .before .before .from-index .ensures) (c .before .wide .ensures) (c .pass .ensures)
+    let known : record {
+      start : tie.Start;
+      slot : tie.After-cell;
+      key : tie.After-remove-after;
+      after-insert-before : tie.After-insert-before;
+      after-from-index : tie.After-from-index;
+      after-wide : tie.After-wide;
+    } = search in
+    relevelled (known .start .pre .0) (known .start .pre .1 .1 .1) (as-levelled (known .start .pre .0) (known .start .pre .1 .1 .1) (known .key .remove-after .ensures .0) (known .key .remove-after .ensures .1) (known .after-insert-before .insert-before .ensures))
+    (known .start .pre .1 .0) (out-is (known .start .pre .0) (known .start .pre .1 .0 .end) (known .slot .cell .ensures)) (known .after-from-index .from-index .ensures) (known .after-wide .wide .ensures) (c .pass .ensures)
 
 pub relevel-spec : {M : Type 1} → statement M
 relevel-spec =

@@ -10,25 +10,39 @@ fits-requires : tie.Need-fits-requires
 fits-requires c κs = search needs
 
 add-write-records : tie.Need-add-write-records
-add-write-records c = omega (arith, yes (c .before .before .fits2 .ensures) (c .before .if1 .taken) .ranges)
+add-write-records c =
+    let (after-fits2, then1) : tie.After-fits2 × tie.Then1 = search in
+    omega (arith, yes (after-fits2 .fits2 .ensures) (then1 .if1 .taken) .ranges)
 
 write-records-requires : tie.Need-write-records-requires
 write-records-requires c κs =
-    let r = yes (c .before .before .fits2 .ensures) (c .before .if1 .taken) in
+    let (after-fits2, then1) : tie.After-fits2 × tie.Then1 = search in
+    let r = yes (after-fits2 .fits2 .ensures) (then1 .if1 .taken) in
     (omega (arith, r .ranges), r .size)
 
 write-header-requires : tie.Need-write-header-requires
 write-header-requires c κs =
-    let r = yes (c .before .before .before .before .before .before .fits2 .ensures) (c .before .before .before .before .before .if1 .taken) in
-    omega (arith, r .ranges, r .size, c .before .before .before .write-records .ensures .size)
+    let known : record {
+      after-fits2 : tie.After-fits2;
+      then1 : tie.Then1;
+      after-write-records : tie.After-write-records;
+    } = search in
+    let r = yes (known .after-fits2 .fits2 .ensures) (known .then1 .if1 .taken) in
+    omega (arith, r .ranges, r .size, known .after-write-records .write-records .ensures .size)
 
 same-length : tie.Need-same-length
 same-length c = search needs
 
 returns : tie.Need-returns
 returns c =
-    let r = yes (c .before .before .before .before .before .before .before .before .before .fits2 .ensures) (c .before .before .before .before .before .before .before .before .if1 .taken) in
-    accepted r (new-arena r (c .before .before .before .before .before .before .write-records .ensures) (c .before .before .write-header .ensures))
+    let known : record {
+      after-fits2 : tie.After-fits2;
+      then1 : tie.Then1;
+      after-write-records : tie.After-write-records;
+      after-write-header : tie.After-write-header;
+    } = search in
+    let r = yes (known .after-fits2 .fits2 .ensures) (known .then1 .if1 .taken) in
+    accepted r (new-arena r (known .after-write-records .write-records .ensures) (known .after-write-header .write-header .ensures))
 
 returns-2 : tie.Need-returns-2
 returns-2 c = refused (c .before .fits2 .ensures) (c .if1 .left)

@@ -5,7 +5,7 @@ use native.Mathlib.Omega.{arith}
 use borrow.Author.Needs.{needs}
 use Rattle.model.specs.Arena.{width}
 use Rattle.setup.specs.Bare.{bareWords}
-use Rattle.setup.proofs.Filling.{Storing, store-none, store-cell, store-more, store-all}
+use Rattle.setup.proofs.Filling.{Storing, store-none, store-more, store-all}
 use Rattle.setup.proofs.New.{bare-at}
 use Rattle.setup.proofs.write_record.Statement.{statement}
 use Rattle.setup.proofs.write_record.Tie as tie
@@ -26,7 +26,7 @@ bare-word-requires : tie.Need-bare-word-requires Inv-loop μ-loop
 bare-word-requires c κs = search needs
 
 put-requires : tie.Need-put-requires Inv-loop μ-loop
-put-requires c κs = store-cell (c .before .before .before .before .before .before .pre) (c .before .before .before .loop .inv .0) (search needs)
+put-requires c κs = search needs
 
 add-c : tie.Need-add-c Inv-loop μ-loop
 add-c c = search needs
@@ -36,17 +36,18 @@ loop-less c = search needs
 
 loop-again : tie.Need-loop-again Inv-loop μ-loop
 loop-again c =
-    let a = c .before .before .before .before .before .before .before .before .before .args in
-    let l = c .before .before .before .before .before .before .loop in (
-      store-more (c .before .before .before .before .before .before .before .before .before .pre) (search needs) (l .inv .0)
-          (c .before .before .before .bare-word .ensures ∙ sym (bare-at (a .m) (l .c) (a .f .a) (a .f .b) (a .f .e) (a .f .d) (search needs)))
-          (c .before .before .put .ensures),
+    let (start, at-loop, after-bare-word, after-put) : tie.Start Inv-loop μ-loop × tie.At-loop Inv-loop μ-loop × tie.After-bare-word Inv-loop μ-loop × tie.After-put Inv-loop μ-loop = search in
+    let a = start .args in
+    let l = at-loop .loop in (
+      store-more (start .pre) (search needs) (l .inv .0)
+          (after-bare-word .bare-word .ensures ∙ sym (bare-at (a .m) (l .c) (a .f .a) (a .f .b) (a .f .e) (a .f .d) (search needs)))
+          (after-put .put .ensures),
       search needs,
       l .inv .2,
     )
 
 same-length : tie.Need-same-length Inv-loop μ-loop
-same-length c = search (needs, c .before .loop .inv .0 .size)
+same-length c = search needs
 
 returns : tie.Need-returns Inv-loop μ-loop
 returns c = store-all (search needs) (c .before .loop .inv .0)

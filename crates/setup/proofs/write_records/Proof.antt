@@ -24,7 +24,8 @@ form-requires c κs = search needs
 
 write-record-requires : tie.Need-write-record-requires Inv-loop μ-loop
 write-record-requires c κs =
-    fill-inside (search needs) (c .before .before .before .before .wide .ensures) (c .before .before .before .before .before .before .pre .1) (search needs) (c .before .before .before .loop .inv .0)
+    let (start, levels, at-loop) : tie.Start Inv-loop μ-loop × tie.After-wide Inv-loop μ-loop × tie.At-loop Inv-loop μ-loop = search in
+    fill-inside (search needs) (levels .wide .ensures) (start .pre .1) (search needs) (at-loop .loop .inv .0)
 
 add-s : tie.Need-add-s Inv-loop μ-loop
 add-s c = search needs
@@ -33,14 +34,20 @@ loop-less : tie.Need-loop-less Inv-loop μ-loop
 loop-less c = search needs
 
 loop-again : tie.Need-loop-again Inv-loop μ-loop
-loop-again c = (
-  fill-more (c .before .before .before .before .before .before .before .wide .ensures) (c .before .before .before .before .before .before .loop .inv .0) (c .before .before .before .form .ensures)
-      (c .before .before .write-record .ensures),
-  search needs,
-)
+loop-again c =
+    let known : record {
+      levels : tie.After-wide Inv-loop μ-loop;
+      at-loop : tie.At-loop Inv-loop μ-loop;
+      after-form : tie.After-form Inv-loop μ-loop;
+      after-write-record : tie.After-write-record Inv-loop μ-loop;
+    } = search in (
+      fill-more (known .levels .wide .ensures) (known .at-loop .loop .inv .0) (known .after-form .form .ensures)
+          (known .after-write-record .write-record .ensures),
+      search needs,
+    )
 
 same-length : tie.Need-same-length Inv-loop μ-loop
-same-length c = c .before .loop .inv .0 .size
+same-length c = search needs
 
 returns : tie.Need-returns Inv-loop μ-loop
 returns c = fill-all (search needs) (search needs) (c .before .loop .inv .0)

@@ -14,7 +14,9 @@ same-length : tie.Need-same-length
 same-length c = search needs
 
 returns : tie.Need-returns
-returns c = carried (c .plain-number .ensures) (c .before .before .before .append .ensures)
+returns c =
+    let after-append : tie.After-append = search in
+    carried (c .plain-number .ensures) (after-append .append .ensures)
 
 pub ska-append-spec : {M : Type 1} → statement M
 ska-append-spec = tie.close (tie.spec append-requires plain-number-requires same-length returns)

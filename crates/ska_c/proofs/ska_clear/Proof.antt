@@ -14,7 +14,9 @@ same-length : tie.Need-same-length
 same-length c = search needs
 
 returns : tie.Need-returns
-returns c = carried (c .plain-number .ensures) (c .before .before .before .clear .ensures)
+returns c =
+    let after-clear : tie.After-clear = search in
+    carried (c .plain-number .ensures) (after-clear .clear .ensures)
 
 pub ska-clear-spec : {M : Type 1} → statement M
 ska-clear-spec = tie.close (tie.spec clear-requires plain-number-requires same-length returns)

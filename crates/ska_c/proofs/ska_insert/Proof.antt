@@ -14,7 +14,9 @@ same-length : tie.Need-same-length
 same-length c = search needs
 
 returns : tie.Need-returns
-returns c = carried (c .plain-number .ensures) (c .before .before .before .insert .ensures)
+returns c =
+    let after-insert : tie.After-insert = search in
+    carried (c .plain-number .ensures) (after-insert .insert .ensures)
 
 pub ska-insert-spec : {M : Type 1} → statement M
 ska-insert-spec = tie.close (tie.spec insert-requires plain-number-requires same-length returns)

@@ -14,7 +14,9 @@ same-length : tie.Need-same-length
 same-length c = search needs
 
 returns : tie.Need-returns
-returns c = carried (c .plain-number .ensures) (c .before .before .before .level .ensures)
+returns c =
+    let after-level : tie.After-level = search in
+    carried (c .plain-number .ensures) (after-level .level .ensures)
 
 pub ska-level-spec : {M : Type 1} → statement M
 ska-level-spec = tie.close (tie.spec level-requires plain-number-requires same-length returns)

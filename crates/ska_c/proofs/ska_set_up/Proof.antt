@@ -14,7 +14,9 @@ same-length : tie.Need-same-length
 same-length c = search needs
 
 returns : tie.Need-returns
-returns c = set-up (c .setup-number .ensures) (c .before .before .before .set-up .ensures)
+returns c =
+    let after-set-up : tie.After-set-up = search in
+    set-up (c .setup-number .ensures) (after-set-up .set-up .ensures)
 
 pub ska-set-up-spec : {M : Type 1} → statement M
 ska-set-up-spec = tie.close (tie.spec set-up-requires setup-number-requires same-length returns)

@@ -14,7 +14,9 @@ same-length : tie.Need-same-length
 same-length c = search needs
 
 returns : tie.Need-returns
-returns c = carried (c .plain-number .ensures) (c .before .before .before .split-at .ensures)
+returns c =
+    let after-split-at : tie.After-split-at = search in
+    carried (c .plain-number .ensures) (after-split-at .split-at .ensures)
 
 pub ska-split-at-spec : {M : Type 1} → statement M
 ska-split-at-spec =

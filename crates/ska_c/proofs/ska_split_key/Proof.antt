@@ -14,7 +14,9 @@ same-length : tie.Need-same-length
 same-length c = search needs
 
 returns : tie.Need-returns
-returns c = carried (c .plain-number .ensures) (c .before .before .before .split-key .ensures)
+returns c =
+    let after-split-key : tie.After-split-key = search in
+    carried (c .plain-number .ensures) (after-split-key .split-key .ensures)
 
 pub ska-split-key-spec : {M : Type 1} → statement M
 ska-split-key-spec =

@@ -14,7 +14,9 @@ same-length : tie.Need-same-length
 same-length c = search needs
 
 returns : tie.Need-returns
-returns c = carried (c .plain-number .ensures) (c .before .before .before .truncate .ensures)
+returns c =
+    let after-truncate : tie.After-truncate = search in
+    carried (c .plain-number .ensures) (after-truncate .truncate .ensures)
 
 pub ska-truncate-spec : {M : Type 1} → statement M
 ska-truncate-spec =

@@ -15,7 +15,9 @@ returns : tie.Need-returns
 returns c = refused (c .before .make .result) (c .before .make .ensures) (c .match .keys2) ∙ made-is _
 
 returns-2 : tie.Need-returns-2
-returns-2 c = given _ _ (c .before .before .before .make .ensures) (c .before .x .given .1) ∙ made-is _
+returns-2 c =
+    let (after-make, after-x) : tie.After-make × tie.After-x = search in
+    given _ _ (after-make .make .ensures) (after-x .x .given .1) ∙ made-is _
 
 pub made-spec : {M : Type 1} → statement M
 made-spec = tie.close (tie.spec make-requires enum-known-x returns returns-2)

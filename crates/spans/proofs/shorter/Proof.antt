@@ -15,7 +15,9 @@ returns : tie.Need-returns
 returns c = refused (c .before .lower .result) (c .before .lower .ensures) (c .match .keys2) ∙ lowered-is _
 
 returns-2 : tie.Need-returns-2
-returns-2 c = given _ _ (c .before .before .before .lower .ensures) (c .before .x .given .1) ∙ lowered-is _
+returns-2 c =
+    let (after-lower, after-x) : tie.After-lower × tie.After-x = search in
+    given _ _ (after-lower .lower .ensures) (after-x .x .given .1) ∙ lowered-is _
 
 pub shorter-spec : {M : Type 1} → statement M
 shorter-spec = tie.close (tie.spec lower-requires enum-known-x returns returns-2)

@@ -26,7 +26,9 @@ same-length : tie.Need-same-length
 same-length c = search needs
 
 returns : tie.Need-returns
-returns c = four-puts _ _ _ _ _ _ _ _ _ _ _ _ (c .before .before .before .before .before .before .put2 .ensures) (c .before .before .put22 .ensures)
+returns c =
+    let (after-put2, after-put22) : tie.After-put2 × tie.After-put22 = search in
+    four-puts _ _ _ _ _ _ _ _ _ _ _ _ (after-put2 .put2 .ensures) (after-put22 .put22 .ensures)
 
 pub put-links-spec : {M : Type 1} → statement M
 put-links-spec =

@@ -10,7 +10,9 @@ seek-requires : tie.Need-seek-requires
 seek-requires c κs = search needs
 
 join-requires : tie.Need-join-requires
-join-requires c κs = (c .before .before .before .before .before .before .pre, rw (c .before .before .before .length .ensures) at (c .before .seek .ensures))
+join-requires c κs =
+    let (start, n, path) : tie.Start × tie.After-length × tie.After-seek = search in
+    (start .pre, rw (n .length .ensures) at (path .seek .ensures))
 
 same-length : tie.Need-same-length
 same-length c = search needs

@@ -11,13 +11,22 @@ remove-at-requires : tie.Need-remove-at-requires
 remove-at-requires c κs = search needs
 
 insert-requires : tie.Need-insert-requires
-insert-requires c κs = (a-listed (c .before .before .before .before .before .before .before .before .pre .0) (c .before .before .before .before .before .before .before .before .pre .1) (c .before .before .before .remove-at .ensures .0), (low-enough (c .before .before .before .before .before .before .before .before .pre .0) (c .before .before .before .before .before .before .before .before .pre .1) (c .before .before .before .before .before .first-height .ensures), slot-free (c .before .before .before .before .before .before .before .before .pre .0) (c .before .before .before .before .before .before .before .before .pre .1) (c .before .before .before .remove-at .ensures .0)))
+insert-requires c κs =
+    let (start, height, key) : tie.Start × tie.After-first-height × tie.After-remove-at = search in
+    (a-listed (start .pre .0) (start .pre .1) (key .remove-at .ensures .0), (low-enough (start .pre .0) (start .pre .1) (height .first-height .ensures), slot-free (start .pre .0) (start .pre .1) (key .remove-at .ensures .0)))
 
 same-length : tie.Need-same-length
 same-length c = search needs
 
 returns : tie.Need-returns
-returns c = moved-is (c .before .before .before .before .before .before .before .before .before .before .before .pre .0) (c .before .before .before .before .before .before .before .before .before .before .before .pre .1) (c .before .before .before .before .before .before .remove-at .ensures .0) (c .before .before .before .before .before .before .remove-at .ensures .1) (c .before .before .before .before .before .before .before .before .first-height .ensures) (c .before .before .insert .ensures)
+returns c =
+    let known : record {
+      start : tie.Start;
+      height : tie.After-first-height;
+      key : tie.After-remove-at;
+      after-insert : tie.After-insert;
+    } = search in
+    moved-is (known .start .pre .0) (known .start .pre .1) (known .key .remove-at .ensures .0) (known .key .remove-at .ensures .1) (known .height .first-height .ensures) (known .after-insert .insert .ensures)
 
 pub move-first-spec : {M : Type 1} → statement M
 move-first-spec =

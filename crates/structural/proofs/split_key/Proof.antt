@@ -10,13 +10,17 @@ find-requires : tie.Need-find-requires
 find-requires c κs = search needs
 
 split-requires : tie.Need-split-requires
-split-requires c κs = (record { from = c .before .before .before .before .before .pre .0 .first; to = c .before .before .before .before .before .pre .0 .second; apart = c .before .before .before .before .before .pre .0 .apart; empty = c .before .before .before .before .before .pre .1; within = omega (arith, c .before .before .find .ensures .place, smaller-le (c .before .before .before .before .before .args .key) (nodes (c .before .before .before .before .before .args .w .now) (c .before .before .before .before .before .args .from .0))) }, rw (c .before .before .find .ensures .place) (c .before .before .find .ensures .leads))
+split-requires c κs =
+    let (start, trail) : tie.Start × tie.After-find = search in
+    (record { from = start .pre .0 .first; to = start .pre .0 .second; apart = start .pre .0 .apart; empty = start .pre .1; within = omega (arith, trail .find .ensures .place, smaller-le (start .args .key) (nodes (start .args .w .now) (start .args .from .0))) }, rw (trail .find .ensures .place) (trail .find .ensures .leads))
 
 same-length : tie.Need-same-length
 same-length c = search needs
 
 returns : tie.Need-returns
-returns c = rw (c .before .before .before .before .before .find .ensures .place) at (c .before .before .split .ensures)
+returns c =
+    let (trail, after-split) : tie.After-find × tie.After-split = search in
+    rw (trail .find .ensures .place) at (after-split .split .ensures)
 
 pub split-key-spec : {M : Type 1} → statement M
 split-key-spec = tie.close (tie.spec find-requires split-requires same-length returns)

@@ -12,19 +12,22 @@ same-length : tie.Need-same-length
 same-length c = search needs
 
 returns : tie.Need-returns
-returns c = kept-all (c .before .before .before .before .args .n) (c .before .before .before .before .pre) (omega (arith, c .if1 .taken, c .before .length .ensures))
+returns c =
+    let (start, after-length) : tie.Start × tie.After-length = search in
+    kept-all (start .args .n) (start .pre) (omega (arith, c .if1 .taken, after-length .length .ensures))
 
 seek-requires : tie.Need-seek-requires
 seek-requires c κs = search needs
 
 trim-requires : tie.Need-trim-requires
-trim-requires c κs = (
-  record {
-    listed = c .before .before .before .before .before .before .before .pre;
-    index = omega (arith, c .before .before .before .if1 .left, c .before .before .before .before .length .ensures);
-  },
-  c .before .seek .ensures,
-)
+trim-requires c κs =
+    let (start, after-length, else1, path) : tie.Start × tie.After-length × tie.Else1 × tie.After-seek = search in (
+      record {
+        listed = start .pre;
+        index = omega (arith, else1 .if1 .left, after-length .length .ensures);
+      },
+      path .seek .ensures,
+    )
 
 same-length-2 : tie.Need-same-length-2
 same-length-2 c = search needs

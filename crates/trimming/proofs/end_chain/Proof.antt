@@ -20,7 +20,14 @@ same-length : tie.Need-same-length
 same-length c = search needs
 
 returns : tie.Need-returns
-returns c = three-puts _ _ _ _ _ _ _ _ (rw (c .before .before .before .before .before .before .before .before .before .before .before .last-word .ensures) at (c .before .before .before .before .before .before .before .before .before .before .put .ensures)) (c .before .before .before .before .before .before .put2 .ensures) _ _ _ (c .before .before .put3 .ensures)
+returns c =
+    let known : record {
+      after-last-word : tie.After-last-word;
+      after-put : tie.After-put;
+      after-put2 : tie.After-put2;
+      after-put3 : tie.After-put3;
+    } = search in
+    three-puts _ _ _ _ _ _ _ _ (rw (known .after-last-word .last-word .ensures) at (known .after-put .put .ensures)) (known .after-put2 .put2 .ensures) _ _ _ (known .after-put3 .put3 .ensures)
 
 pub end-chain-spec : {M : Type 1} → statement M
 end-chain-spec =

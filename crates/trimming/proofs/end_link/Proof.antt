@@ -26,7 +26,9 @@ same-length : tie.Need-same-length
 same-length c = search needs
 
 returns : tie.Need-returns
-returns c = two-puts _ _ _ _ _ _ _ _ (c .before .before .before .before .before .before .put .ensures) (c .before .before .put2 .ensures)
+returns c =
+    let (after-put, after-put2) : tie.After-put × tie.After-put2 = search in
+    two-puts _ _ _ _ _ _ _ _ (after-put .put .ensures) (after-put2 .put2 .ensures)
 
 pub end-link-spec : {M : Type 1} → statement M
 end-link-spec =

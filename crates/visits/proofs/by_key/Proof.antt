@@ -16,7 +16,9 @@ slice-aggregate-key-visit : tie.Need-slice-aggregate-key-visit
 slice-aggregate-key-visit c = search needs
 
 traversed-requires : tie.Need-traversed-requires
-traversed-requires c κs = rw (c .before .before .before .new .ensures .0) (c .before .before .before .before .before .pre)
+traversed-requires c κs =
+    let (start, v) : tie.Start × tie.After-new = search in
+    rw (v .new .ensures .0) (start .pre)
 
 key-visit-requires : tie.Need-key-visit-requires
 key-visit-requires c κs = search needs
@@ -25,7 +27,9 @@ slice-aggregate-key-visit-2 : tie.Need-slice-aggregate-key-visit-2
 slice-aggregate-key-visit-2 c = search needs
 
 lent-requires : tie.Need-lent-requires
-lent-requires c κs = rw (c .before .before .before .before .before .before .new .ensures .0) (c .before .before .before .before .before .before .before .before .pre)
+lent-requires c κs =
+    let (start, v) : tie.Start × tie.After-new = search in
+    rw (v .new .ensures .0) (start .pre)
 
 key-visit-requires-2 : tie.Need-key-visit-requires-2
 key-visit-requires-2 c κs = search needs

@@ -16,7 +16,9 @@ slice-aggregate-rank-visit : tie.Need-slice-aggregate-rank-visit
 slice-aggregate-rank-visit c = search needs
 
 traversed-requires : tie.Need-traversed-requires
-traversed-requires c κs = rw (c .before .before .before .new .ensures .0) (c .before .before .before .before .before .pre)
+traversed-requires c κs =
+    let (start, v) : tie.Start × tie.After-new = search in
+    rw (v .new .ensures .0) (start .pre)
 
 rank-visit-requires : tie.Need-rank-visit-requires
 rank-visit-requires c κs = search needs
@@ -25,7 +27,9 @@ slice-aggregate-rank-visit-2 : tie.Need-slice-aggregate-rank-visit-2
 slice-aggregate-rank-visit-2 c = search needs
 
 lent-requires : tie.Need-lent-requires
-lent-requires c κs = rw (c .before .before .before .before .before .before .new .ensures .0) (c .before .before .before .before .before .before .before .before .pre)
+lent-requires c κs =
+    let (start, v) : tie.Start × tie.After-new = search in
+    rw (v .new .ensures .0) (start .pre)
 
 rank-visit-requires-2 : tie.Need-rank-visit-requires-2
 rank-visit-requires-2 c κs = search needs

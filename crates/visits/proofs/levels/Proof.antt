@@ -1,5 +1,4 @@
 -- `visits::levels` meets its contract: the words are those of their model, which has a list.
-use mathlib.Core.Path.{_∙_}
 use native.Mathlib.Omega.{arith}
 use borrow.Author.Needs.{needs}
 use Rattle.arena.proofs.Places.{has-header}
@@ -13,7 +12,7 @@ wide-requires : tie.Need-wide-requires
 wide-requires c κs = search needs
 
 returns : tie.Need-returns
-returns c = let p = c .before .before .before .pre in record { passes = p; levels = c .wide .ensures ∙ c .before .header .ensures; list = omega (arith, p .sizes .lists-least) }
+returns c = search needs
 
 pub levels-spec : {M : Type 1} → statement M
 levels-spec = tie.close (tie.spec header-requires wide-requires returns)

@@ -16,13 +16,15 @@ width-requires c κs = search needs
 
 mul-result : tie.Need-mul-result
 mul-result c =
-    let l : width (c .before .before .args .m) ≤ 36 = omega (arith, c .before .before .pre) in
-    rw (c .before .wide .ensures, c .width .ensures) (omega (arith, mul-le-mul-left (c .before .before .args .s .0) l))
+    let (start, after-wide) : tie.Start × tie.After-wide = search in
+    let l : width (start .args .m) ≤ 36 = omega (arith, start .pre) in
+    rw (after-wide .wide .ensures, c .width .ensures) (omega (arith, mul-le-mul-left (start .args .s .0) l))
 
 add-result : tie.Need-add-result
 add-result c =
-    let l : width (c .before .before .args .m) ≤ 36 = omega (arith, c .before .before .pre) in
-    rw (c .before .wide .ensures, c .width .ensures) (omega (arith, mul-le-mul-left (c .before .before .args .s .0) l))
+    let (start, after-wide) : tie.Start × tie.After-wide = search in
+    let l : width (start .args .m) ≤ 36 = omega (arith, start .pre) in
+    rw (after-wide .wide .ensures, c .width .ensures) (omega (arith, mul-le-mul-left (start .args .s .0) l))
 
 returns : tie.Need-returns
 returns c = cc

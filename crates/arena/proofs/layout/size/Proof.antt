@@ -15,13 +15,17 @@ wide-requires-2 : tie.Need-wide-requires-2
 wide-requires-2 c κs = search needs
 
 width-requires : tie.Need-width-requires
-width-requires c κs = rw (c .wide2 .ensures) (omega (arith, c .before .before .pre))
+width-requires c κs = search needs
 
 mul-result : tie.Need-mul-result
-mul-result c = rw (c .before .before .wide .ensures, c .width .ensures, c .before .wide2 .ensures) (omega (arith, few _ _ _ (c .before .before .before .pre)))
+mul-result c =
+    let (start, after-wide, after-wide2) : tie.Start × tie.After-wide × tie.After-wide2 = search in
+    rw (after-wide .wide .ensures, c .width .ensures, after-wide2 .wide2 .ensures) (omega (arith, few _ _ _ (start .pre)))
 
 add-result : tie.Need-add-result
-add-result c = rw (c .before .before .wide .ensures, c .width .ensures, c .before .wide2 .ensures) (omega (arith, few _ _ _ (c .before .before .before .pre)))
+add-result c =
+    let (start, after-wide, after-wide2) : tie.Start × tie.After-wide × tie.After-wide2 = search in
+    rw (after-wide .wide .ensures, c .width .ensures, after-wide2 .wide2 .ensures) (omega (arith, few _ _ _ (start .pre)))
 
 returns : tie.Need-returns
 returns c = cc

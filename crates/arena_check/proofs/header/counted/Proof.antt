@@ -21,7 +21,8 @@ wide-requires c κs = search needs
 
 loop-holds : tie.Need-loop-holds Inv-loop μ-loop
 loop-holds c =
-    count-none _ _ (c .before .before .before .pre) _ (c .wide .ensures) (omega (arith, c .wide .ensures, c .before .shared-slice-known2 .given 6))
+    let (start, after-shared-slice-known2) : tie.Start Inv-loop μ-loop × tie.After-shared-slice-known2 Inv-loop μ-loop = search in
+    count-none _ _ (start .pre) _ (c .wide .ensures) (omega (arith, c .wide .ensures, after-shared-slice-known2 .shared-slice-known2 .given 6))
 
 word-requires : tie.Need-word-requires Inv-loop μ-loop
 word-requires c κs = search needs
@@ -40,7 +41,8 @@ loop-less c = search needs
 
 loop-again : tie.Need-loop-again Inv-loop μ-loop
 loop-again c =
-    count-more _ _ (c .before .before .before .before .before .before .before .before .pre) _ _ _ (c .before .before .before .before .loop .inv) (c .before .before .if1 .taken) (c .wide2 .ensures ∙ c .before .word .ensures) (omega (arith, c .wide2 .ensures, c .before .word .ok))
+    let (start, at-loop, then1, after-word) : tie.Start Inv-loop μ-loop × tie.At-loop Inv-loop μ-loop × tie.Then1 Inv-loop μ-loop × tie.After-word Inv-loop μ-loop = search in
+    count-more _ _ (start .pre) _ _ _ (at-loop .loop .inv) (then1 .if1 .taken) (c .wide2 .ensures ∙ after-word .word .ensures) (omega (arith, c .wide2 .ensures, after-word .word .ok))
 
 returns : tie.Need-returns Inv-loop μ-loop
 returns c = search count-all

@@ -23,8 +23,9 @@ shared-slice-read-t7 c = search needs
 
 returns : tie.Need-returns
 returns c =
-    let w = c .before .before .before .before .before .args .w .now in
-    ap {B = Dims} (λ (m : ℕ). record { lists = getD w 2 0; levels = m; room = getD w 4 0 }) (c .before .before .wide .ensures)
+    let (start, after-wide) : tie.Start × tie.After-wide = search in
+    let w = start .args .w .now in
+    ap {B = Dims} (λ (m : ℕ). record { lists = getD w 2 0; levels = m; room = getD w 4 0 }) (after-wide .wide .ensures)
 
 pub dims-of-spec : {M : Type 1} → statement M
 dims-of-spec =

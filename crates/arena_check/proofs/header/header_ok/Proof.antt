@@ -37,16 +37,18 @@ fits-requires : tie.Need-fits-requires
 fits-requires c κs = search needs
 
 returns-5 : tie.Need-returns-5
-returns-5 c = record {
-  sound = λ x. let q = c .fits2 .ensures .sound x in record {
-    eight = c .before .before .before .before .before .before .before .before .before .before .if1 .left;
-    is-mark = c .before .before .before .before .before .before .before .before .if2 .left;
-    is-version = c .before .before .before .before .before .before .if3 .left;
-    last-word = c .before .before .before .before .if4 .left;
-    shape = record { size = q .size; ranges = q .ranges };
-  };
-  complete = λ h. c .fits2 .ensures .complete (record { ranges = h .shape .ranges; size = h .shape .size });
-}
+returns-5 c =
+    let (else1, else2, else3, else4) : tie.Else1 × tie.Else2 × tie.Else3 × tie.Else4 = search in
+    record {
+      sound = λ x. let q = c .fits2 .ensures .sound x in record {
+        eight = else1 .if1 .left;
+        is-mark = else2 .if2 .left;
+        is-version = else3 .if3 .left;
+        last-word = else4 .if4 .left;
+        shape = record { size = q .size; ranges = q .ranges };
+      };
+      complete = λ h. c .fits2 .ensures .complete (record { ranges = h .shape .ranges; size = h .shape .size });
+    }
 
 pub header-ok-spec : {M : Type 1} → statement M
 header-ok-spec =

@@ -27,7 +27,9 @@ word-requires-2 : tie.Need-word-requires-2 Inv-loop μ-loop
 word-requires-2 c κs = search needs
 
 returns-2 : tie.Need-returns-2 Inv-loop μ-loop
-returns-2 c = last-no _ _ _ _ (c .before .before .before .before .before .word .ensures) _ _ (c .before .before .before .before .if1 .left) (c .before .before .loop-test .taken) (c .before .word2 .ensures) (c .if2 .taken)
+returns-2 c =
+    let (last, else1, in-loop, after-word2) : tie.After-word Inv-loop μ-loop × tie.Else1 Inv-loop μ-loop × tie.In-loop Inv-loop μ-loop × tie.After-word2 Inv-loop μ-loop = search in
+    last-no _ _ _ _ (last .word .ensures) _ _ (else1 .if1 .left) (in-loop .loop-test .taken) (after-word2 .word2 .ensures) (c .if2 .taken)
 
 add-b : tie.Need-add-b Inv-loop μ-loop
 add-b c = search needs
@@ -36,7 +38,9 @@ loop-less : tie.Need-loop-less Inv-loop μ-loop
 loop-less c = search needs
 
 loop-again : tie.Need-loop-again Inv-loop μ-loop
-loop-again c = last-next _ _ _ _ (c .before .before .before .before .before .word .ensures) _ _ (c .before .before .before .loop .inv) (c .before .before .loop-test .taken) (c .before .word2 .ensures) (c .if2 .left)
+loop-again c =
+    let (last, at-loop, in-loop, after-word2) : tie.After-word Inv-loop μ-loop × tie.At-loop Inv-loop μ-loop × tie.In-loop Inv-loop μ-loop × tie.After-word2 Inv-loop μ-loop = search in
+    last-next _ _ _ _ (last .word .ensures) _ _ (at-loop .loop .inv) (in-loop .loop-test .taken) (after-word2 .word2 .ensures) (c .if2 .left)
 
 returns-3 : tie.Need-returns-3 Inv-loop μ-loop
 returns-3 c = below-all _ _ _ (c .before .loop .inv) (c .loop-test .left)

@@ -27,13 +27,19 @@ loop-less : tie.Need-loop-less Inv-loop μ-loop
 loop-less c = search needs
 
 loop-again : tie.Need-loop-again Inv-loop μ-loop
-loop-again c = below-next _ _ _ _ (c .before .before .before .before .loop .inv) (c .before .before .if1 .taken) (c .before .last-apart .ensures) (c .if2 .taken)
+loop-again c =
+    let (at-loop, then1, after-last-apart) : tie.At-loop Inv-loop μ-loop × tie.Then1 Inv-loop μ-loop × tie.After-last-apart Inv-loop μ-loop = search in
+    below-next _ _ _ _ (at-loop .loop .inv) (then1 .if1 .taken) (after-last-apart .last-apart .ensures) (c .if2 .taken)
 
 returns : tie.Need-returns Inv-loop μ-loop
-returns c = below-no _ (λ (k : ℕ). Below k (Differ (c .before .before .before .before .before .before .args .d .levels) (c .before .before .before .before .before .before .args .w .now) k)) _ _ (c .before .before .if1 .taken) (c .before .last-apart .ensures) (c .if2 .left)
+returns c =
+    let (start, then1, after-last-apart) : tie.Start Inv-loop μ-loop × tie.Then1 Inv-loop μ-loop × tie.After-last-apart Inv-loop μ-loop = search in
+    below-no _ (λ (k : ℕ). Below k (Differ (start .args .d .levels) (start .args .w .now) k)) _ _ (then1 .if1 .taken) (after-last-apart .last-apart .ensures) (c .if2 .left)
 
 returns-2 : tie.Need-returns-2 Inv-loop μ-loop
-returns-2 c = below-all _ _ _ (c .before .before .loop .inv) (c .if1 .left)
+returns-2 c =
+    let at-loop : tie.At-loop Inv-loop μ-loop = search in
+    below-all _ _ _ (at-loop .loop .inv) (c .if1 .left)
 
 pub lasts-apart-spec : {M : Type 1} → statement M
 lasts-apart-spec =

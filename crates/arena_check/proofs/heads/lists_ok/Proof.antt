@@ -18,7 +18,9 @@ loop-holds : tie.Need-loop-holds Inv-loop μ-loop
 loop-holds c = upto-none _ _ _ (omega arith)
 
 list-ok-requires : tie.Need-list-ok-requires Inv-loop μ-loop
-list-ok-requires c κs = (search needs, (search needs, length-bound _ _ _ (c .before .before .before .before .pre .1) (c .if1 .taken)))
+list-ok-requires c κs =
+    let start : tie.Start Inv-loop μ-loop = search in
+    (search needs, (search needs, length-bound _ _ _ (start .pre .1) (c .if1 .taken)))
 
 add-a : tie.Need-add-a Inv-loop μ-loop
 add-a c = search needs
@@ -27,13 +29,19 @@ loop-less : tie.Need-loop-less Inv-loop μ-loop
 loop-less c = search needs
 
 loop-again : tie.Need-loop-again Inv-loop μ-loop
-loop-again c = below-next _ _ _ _ (c .before .before .before .before .loop .inv) (c .before .before .if1 .taken) (c .before .list-ok .ensures) (c .if2 .taken)
+loop-again c =
+    let (at-loop, then1, after-list-ok) : tie.At-loop Inv-loop μ-loop × tie.Then1 Inv-loop μ-loop × tie.After-list-ok Inv-loop μ-loop = search in
+    below-next _ _ _ _ (at-loop .loop .inv) (then1 .if1 .taken) (after-list-ok .list-ok .ensures) (c .if2 .taken)
 
 returns : tie.Need-returns Inv-loop μ-loop
-returns c = below-no _ _ _ _ (c .before .before .if1 .taken) (c .before .list-ok .ensures) (c .if2 .left)
+returns c =
+    let (then1, after-list-ok) : tie.Then1 Inv-loop μ-loop × tie.After-list-ok Inv-loop μ-loop = search in
+    below-no _ _ _ _ (then1 .if1 .taken) (after-list-ok .list-ok .ensures) (c .if2 .left)
 
 returns-2 : tie.Need-returns-2 Inv-loop μ-loop
-returns-2 c = below-all _ _ _ (c .before .before .loop .inv) (c .if1 .left)
+returns-2 c =
+    let at-loop : tie.At-loop Inv-loop μ-loop = search in
+    below-all _ _ _ (at-loop .loop .inv) (c .if1 .left)
 
 pub lists-ok-spec : {M : Type 1} → statement M
 lists-ok-spec =

@@ -13,6 +13,24 @@ Inv-loop w d h slot l₀ l = Upto h (d .levels) l (λ k. Absent (d .levels) w sl
 abbrev μ-loop : tie.MeasureT-loop
 μ-loop w d h slot l₀ l = d .levels - l
 
+-- the places that the answers cite
+abbrev Start : Type 0
+Start = tie.Start Inv-loop μ-loop
+
+abbrev At-loop : Type 0
+At-loop = tie.At-loop Inv-loop μ-loop
+
+abbrev Then1 : Type 0
+Then1 = tie.Then1 Inv-loop μ-loop
+
+record Known-after-word2 : Type 0 where
+  start : Start
+  at-loop : At-loop
+  then1 : Then1
+  after-word : tie.After-word Inv-loop μ-loop
+  else2 : tie.Else2 Inv-loop μ-loop
+  after-word2 : tie.After-word2 Inv-loop μ-loop
+
 loop-holds : tie.Need-loop-holds Inv-loop μ-loop
 loop-holds c = upto-none _ _ _ (omega arith)
 
@@ -26,7 +44,9 @@ word-requires : tie.Need-word-requires Inv-loop μ-loop
 word-requires c κs = search needs
 
 returns : tie.Need-returns Inv-loop μ-loop
-returns c = absent-no-to _ _ (λ _. c .before .before .before .before .before .before .args .s .0) _ _ _ (c .before .before .before .before .loop .inv) (c .before .before .if1 .taken) (c .before .word .ensures) (c .if2 .taken)
+returns c =
+    let (start, at-loop, then1, after-word) : Start × At-loop × Then1 × tie.After-word Inv-loop μ-loop = search in
+    absent-no-to _ _ (λ _. start .args .s .0) _ _ _ (at-loop .loop .inv) (then1 .if1 .taken) (after-word .word .ensures) (c .if2 .taken)
 
 mul-word-2 : tie.Need-mul-word-2 Inv-loop μ-loop
 mul-word-2 c = search needs
@@ -38,7 +58,9 @@ word-requires-2 : tie.Need-word-requires-2 Inv-loop μ-loop
 word-requires-2 c κs = search needs
 
 returns-2 : tie.Need-returns-2 Inv-loop μ-loop
-returns-2 c = absent-no-far _ _ (λ _. c .before .before .before .before .before .before .before .before .args .s .0) _ _ _ (c .before .before .before .before .before .before .loop .inv) (c .before .before .before .before .if1 .taken) (c .before .word2 .ensures) (c .if3 .taken)
+returns-2 c =
+    let (start, at-loop, then1, after-word2) : Start × At-loop × Then1 × tie.After-word2 Inv-loop μ-loop = search in
+    absent-no-far _ _ (λ _. start .args .s .0) _ _ _ (at-loop .loop .inv) (then1 .if1 .taken) (after-word2 .word2 .ensures) (c .if3 .taken)
 
 add-l : tie.Need-add-l Inv-loop μ-loop
 add-l c = search needs
@@ -48,10 +70,13 @@ loop-less c = search needs
 
 loop-again : tie.Need-loop-again Inv-loop μ-loop
 loop-again c =
-    absent-more _ _ (λ _. c .before .before .before .before .before .before .before .before .args .s .0) _ _ _ _ (c .before .before .before .before .before .before .loop .inv) (c .before .before .before .before .if1 .taken) (c .before .before .before .word .ensures) (c .before .before .if2 .left) (c .before .word2 .ensures) (c .if3 .left)
+    let known : Known-after-word2 = search in
+    absent-more _ _ (λ _. known .start .args .s .0) _ _ _ _ (known .at-loop .loop .inv) (known .then1 .if1 .taken) (known .after-word .word .ensures) (known .else2 .if2 .left) (known .after-word2 .word2 .ensures) (c .if3 .left)
 
 returns-3 : tie.Need-returns-3 Inv-loop μ-loop
-returns-3 c = absent-all _ _ (λ _. c .before .before .before .before .args .s .0) _ _ (c .before .before .loop .inv) (c .if1 .left)
+returns-3 c =
+    let (start, at-loop) : Start × At-loop = search in
+    absent-all _ _ (λ _. start .args .s .0) _ _ (at-loop .loop .inv) (c .if1 .left)
 
 pub absent-from-spec : {M : Type 1} → statement M
 absent-from-spec =

@@ -12,13 +12,17 @@ wide-requires : tie.Need-wide-requires
 wide-requires c κs = search needs
 
 returns : tie.Need-returns
-returns c = list-no-height _ _ (c .before .before .before .before .before .pre .0) _ _ (c .before .before .wide .ensures ∙ c .before .before .before .word .ensures) (c .if1 .taken)
+returns c =
+    let (start, after-word, after-wide) : tie.Start × tie.After-word × tie.After-wide = search in
+    list-no-height _ _ (start .pre .0) _ _ (after-wide .wide .ensures ∙ after-word .word .ensures) (c .if1 .taken)
 
 walk-ok-requires : tie.Need-walk-ok-requires
 walk-ok-requires c κs = search needs
 
 returns-2 : tie.Need-returns-2
-returns-2 c = list-walk _ _ (c .before .before .before .before .before .before .pre .0) _ _ _ (c .before .before .before .wide .ensures ∙ c .before .before .before .before .word .ensures) (c .before .if1 .left) (c .walk-ok .ensures)
+returns-2 c =
+    let (start, after-word, after-wide, else1) : tie.Start × tie.After-word × tie.After-wide × tie.Else1 = search in
+    list-walk _ _ (start .pre .0) _ _ _ (after-wide .wide .ensures ∙ after-word .word .ensures) (else1 .if1 .left) (c .walk-ok .ensures)
 
 pub list-ok-spec : {M : Type 1} → statement M
 list-ok-spec = tie.close (tie.spec word-requires wide-requires returns walk-ok-requires returns-2)

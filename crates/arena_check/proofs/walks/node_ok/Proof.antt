@@ -38,15 +38,32 @@ closes-requires : tie.Need-closes-requires
 closes-requires c κs = search needs
 
 absent-from-requires : tie.Need-absent-from-requires
-absent-from-requires c κs = (search needs, (free-within _ _ _ (c .before .before .before .before .before .before .before .before .before .before .before .within .ensures) (c .before .before .before .before .before .before .before .before .before .before .if1 .taken), omega (arith, c .before .before .before .before .if3 .left)))
+absent-from-requires c κs =
+    let (after-within, then1, else3) : tie.After-within × tie.Then1 × tie.Else3 = search in
+    (search needs, (free-within _ _ _ (after-within .within .ensures) (then1 .if1 .taken), omega (arith, else3 .if3 .left)))
 
 returns-5 : tie.Need-returns-5
 returns-5 c =
-    node-ok _ _ _ _ _ _ _ _ _ _ _ _ _ (c .before .before .before .before .before .before .before .before .before .before .before .before .within .ensures) (c .before .before .before .before .before .before .before .before .before .before .before .if1 .taken) (c .before .before .before .before .before .before .before .before .before .wide .ensures ∙ c .before .before .before .before .before .before .before .before .before .before .word .ensures) (c .before .before .before .before .before .before .before .before .word2 .ensures) (c .before .before .before .before .before .before .before .if2 .left) (c .before .before .before .before .before .if3 .left) (c .before .before .before .before .word3 .ensures) (c .before .before .before .if4 .left) (c .before .before .closes .ensures) (c .before .if5 .taken)
+    let known : record {
+      after-within : tie.After-within;
+      then1 : tie.Then1;
+      after-word : tie.After-word;
+      after-wide : tie.After-wide;
+      after-word2 : tie.After-word2;
+      else2 : tie.Else2;
+      else3 : tie.Else3;
+      after-word3 : tie.After-word3;
+      else4 : tie.Else4;
+      after-closes : tie.After-closes;
+      then5 : tie.Then5;
+    } = search in
+    node-ok _ _ _ _ _ _ _ _ _ _ _ _ _ (known .after-within .within .ensures) (known .then1 .if1 .taken) (known .after-wide .wide .ensures ∙ known .after-word .word .ensures) (known .after-word2 .word2 .ensures) (known .else2 .if2 .left) (known .else3 .if3 .left) (known .after-word3 .word3 .ensures) (known .else4 .if4 .left) (known .after-closes .closes .ensures) (known .then5 .if5 .taken)
     (c .absent-from .ensures)
 
 returns-6 : tie.Need-returns-6
-returns-6 c = node-no-close _ _ _ _ _ _ _ _ _ (c .before .before .before .before .before .before .before .before .wide .ensures ∙ c .before .before .before .before .before .before .before .before .before .word .ensures) (c .before .closes .ensures) (c .if5 .left)
+returns-6 c =
+    let (after-word, after-wide, after-closes) : tie.After-word × tie.After-wide × tie.After-closes = search in
+    node-no-close _ _ _ _ _ _ _ _ _ (after-wide .wide .ensures ∙ after-word .word .ensures) (after-closes .closes .ensures) (c .if5 .left)
 
 pub node-ok-spec : {M : Type 1} → statement M
 node-ok-spec =

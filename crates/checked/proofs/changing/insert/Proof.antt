@@ -13,7 +13,9 @@ same-length : tie.Need-same-length
 same-length c = search needs
 
 returns : tie.Need-returns
-returns c = no-list (c .before .before .before .before .before .pre) _ (c .before .before .before .before .before .args .list .0) _ refl (omega arith)
+returns c =
+    let start : tie.Start = search in
+    no-list (start .pre) _ (start .args .list .0) _ refl (omega arith)
 
 levels-requires : tie.Need-levels-requires
 levels-requires c κs = search needs
@@ -25,7 +27,9 @@ same-length-2 : tie.Need-same-length-2
 same-length-2 c = search needs
 
 returns-2 : tie.Need-returns-2
-returns-2 c = too-high (c .before .before .before .before .before .before .before .before .before .pre) _ _ _ (omega arith) (omega arith)
+returns-2 c =
+    let start : tie.Start = search in
+    too-high (start .pre) _ _ _ (omega arith) (omega arith)
 
 free-requires : tie.Need-free-requires
 free-requires c κs = search needs
@@ -34,19 +38,30 @@ same-length-3 : tie.Need-same-length-3
 same-length-3 c = search needs
 
 returns-3 : tie.Need-returns-3
-returns-3 c = full (c .before .before .before .before .before .before .before .before .before .before .before .before .pre) _ _ _ (omega arith) (omega arith) (omega arith)
+returns-3 c =
+    let start : tie.Start = search in
+    full (start .pre) _ _ _ (omega arith) (omega arith) (omega arith)
 
 insert-requires : tie.Need-insert-requires
 insert-requires c κs =
-    (record { passes = c .before .before .before .before .before .before .before .before .before .before .before .before .before .pre; levels = c .before .before .before .before .before .before .levels .ensures; list = omega arith }, (omega arith, omega (arith, c .before .if3 .left)))
+    let (start, m, else3) : tie.Start × tie.After-levels × tie.Else3 = search in
+    (record { passes = start .pre; levels = m .levels .ensures; list = omega arith }, (omega arith, omega (arith, else3 .if3 .left)))
 
 same-length-4 : tie.Need-same-length-4
 same-length-4 c = search needs
 
+abbrev start-of-returns-4 : tie.After-slice-known2 → tie.Start
+start-of-returns-4 c = search
+
+abbrev else3-of-returns-4 : tie.After-slice-known2 → tie.Else3
+else3-of-returns-4 c = search
+
+abbrev after-insert-of-returns-4 : tie.After-slice-known2 → tie.After-insert
+after-insert-of-returns-4 c = search
+
 returns-4 : tie.Need-returns-4
-returns-4 c =
-    let a = c .before .before .before .before .before .before .before .before .before .before .before .before .before .before .before .before .args in
-    accepts (c .before .before .before .before .before .before .before .before .before .before .before .before .before .before .before .before .pre) _ (has-room (c .before .before .before .before .before .before .before .before .before .before .before .before .before .before .before .before .pre) (a .list .0) (a .key) (a .height) (omega arith) (omega arith) (omega (arith, c .before .before .before .before .if3 .left))) refl (c .before .before .insert .ensures)
+returns-4 c = let a = start-of-returns-4 c .args in
+    accepts (start-of-returns-4 c .pre) _ (has-room (start-of-returns-4 c .pre) (a .list .0) (a .key) (a .height) (omega arith) (omega arith) (omega (arith, else3-of-returns-4 c .if3 .left))) refl (after-insert-of-returns-4 c .insert .ensures)
 
 pub insert-spec : {M : Type 1} → statement M
 insert-spec =

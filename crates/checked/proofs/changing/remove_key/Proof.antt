@@ -14,13 +14,17 @@ same-length : tie.Need-same-length
 same-length c = search needs
 
 returns : tie.Need-returns
-returns c = no-list (c .before .before .before .before .before .pre) _ (c .before .before .before .before .before .args .list .0) _ refl (omega arith)
+returns c =
+    let start : tie.Start = search in
+    no-list (start .pre) _ (start .args .list .0) _ refl (omega arith)
 
 levels-requires : tie.Need-levels-requires
 levels-requires c κs = search needs
 
 remove-key-requires : tie.Need-remove-key-requires
-remove-key-requires c κs = record { passes = c .before .before .before .before .before .before .before .before .pre; levels = c .levels .ensures; list = omega arith }
+remove-key-requires c κs =
+    let start : tie.Start = search in
+    record { passes = start .pre; levels = c .levels .ensures; list = omega arith }
 
 enum-known-k : tie.Need-enum-known-k
 enum-known-k c = search needs
@@ -33,7 +37,8 @@ same-length-2 c = search needs
 
 returns-2 : tie.Need-returns-2
 returns-2 c =
-    let r = c .before .before .before .before .remove-key .ensures in
+    let after-remove-key : tie.After-remove-key = search in
+    let r = after-remove-key .remove-key .ensures in
     record { answered = ap removedOf (sym (c .enum-told .given .1)) ∙ r .told; left = r .words }
 
 same-length-3 : tie.Need-same-length-3
@@ -41,8 +46,9 @@ same-length-3 c = search needs
 
 returns-3 : tie.Need-returns-3
 returns-3 c =
-    let r = c .before .before .before .before .before .remove-key .ensures in
-    record { answered = ap removedOf (sym (c .before .k .given .1)) ∙ r .told; left = r .words }
+    let (after-remove-key, after-k) : tie.After-remove-key × tie.After-k = search in
+    let r = after-remove-key .remove-key .ensures in
+    record { answered = ap removedOf (sym (after-k .k .given .1)) ∙ r .told; left = r .words }
 
 pub remove-key-spec : {M : Type 1} → statement M
 remove-key-spec =

@@ -14,7 +14,9 @@ same-length : tie.Need-same-length
 same-length c = search needs
 
 returns : tie.Need-returns
-returns c = no-list (c .before .before .before .before .before .pre) _ (c .before .before .before .before .before .args .a .0) _ refl (omega arith)
+returns c =
+    let start : tie.Start = search in
+    no-list (start .pre) _ (start .args .a .0) _ refl (omega arith)
 
 lists-requires-2 : tie.Need-lists-requires-2
 lists-requires-2 c κs = search needs
@@ -23,28 +25,42 @@ same-length-2 : tie.Need-same-length-2
 same-length-2 c = search needs
 
 returns-2 : tie.Need-returns-2
-returns-2 c = no-second (c .before .before .before .before .before .before .before .before .before .pre) _ (c .before .before .before .before .before .before .before .before .before .args .a .0) (c .before .before .before .before .before .before .before .before .before .args .b .0) _ refl (omega arith) (omega arith)
+returns-2 c =
+    let start : tie.Start = search in
+    no-second (start .pre) _ (start .args .a .0) (start .args .b .0) _ refl (omega arith) (omega arith)
 
 same-length-3 : tie.Need-same-length-3
 same-length-3 c = search needs
 
 returns-3 : tie.Need-returns-3
-returns-3 c = same-list (c .before .before .before .before .before .before .before .before .before .before .before .before .pre) _ (c .before .before .before .before .before .before .before .before .before .before .before .before .args .a .0) (c .before .before .before .before .before .before .before .before .before .before .before .before .args .b .0) _ refl (omega arith) (omega arith) (c .if3 .taken)
+returns-3 c =
+    let start : tie.Start = search in
+    same-list (start .pre) _ (start .args .a .0) (start .args .b .0) _ refl (omega arith) (omega arith) (c .if3 .taken)
 
 levels-requires : tie.Need-levels-requires
 levels-requires c κs = search needs
 
 append-requires : tie.Need-append-requires
-append-requires c κs = record { first = record { passes = c .before .before .before .before .before .before .before .before .before .before .before .before .before .before .before .pre; levels = c .levels .ensures; list = omega arith }; second = record { passes = c .before .before .before .before .before .before .before .before .before .before .before .before .before .before .before .pre; levels = c .levels .ensures; list = omega arith }; apart = c .before .before .before .if3 .left }
+append-requires c κs =
+    let (start, else3) : tie.Start × tie.Else3 = search in
+    record { first = record { passes = start .pre; levels = c .levels .ensures; list = omega arith }; second = record { passes = start .pre; levels = c .levels .ensures; list = omega arith }; apart = else3 .if3 .left }
 
 same-length-4 : tie.Need-same-length-4
 same-length-4 c = search needs
 
+abbrev start-of-returns-4 : tie.After-slice-known2 → tie.Start
+start-of-returns-4 c = search
+
+abbrev else3-of-returns-4 : tie.After-slice-known2 → tie.Else3
+else3-of-returns-4 c = search
+
+abbrev after-append-of-returns-4 : tie.After-slice-known2 → tie.After-append
+after-append-of-returns-4 c = search
+
 returns-4 : tie.Need-returns-4
-returns-4 c =
-    let a = c .before .before .before .before .before .before .before .before .before .before .before .before .before .before .before .before .before .before .args in
-    accepts (c .before .before .before .before .before .before .before .before .before .before .before .before .before .before .before .before .before .before .pre) _ (two-lists (c .before .before .before .before .before .before .before .before .before .before .before .before .before .before .before .before .before .before .pre) (appendList (a .a .0) (a .b .0)) (a .a .0) (a .b .0) 0 refl (omega arith) (omega arith) (c .before .before .before .before .before .before .if3 .left))
-    refl (c .before .before .append .ensures)
+returns-4 c = let a = start-of-returns-4 c .args in
+    accepts (start-of-returns-4 c .pre) _ (two-lists (start-of-returns-4 c .pre) (appendList (a .a .0) (a .b .0)) (a .a .0) (a .b .0) 0 refl (omega arith) (omega arith) (else3-of-returns-4 c .if3 .left))
+    refl (after-append-of-returns-4 c .append .ensures)
 
 pub append-spec : {M : Type 1} → statement M
 append-spec =

@@ -14,21 +14,26 @@ same-length : tie.Need-same-length
 same-length c = search needs
 
 returns : tie.Need-returns
-returns c = no-list (c .before .before .before .before .before .pre) _ (c .before .before .before .before .before .args .list .0) _ refl (omega arith)
+returns c =
+    let start : tie.Start = search in
+    no-list (start .pre) _ (start .args .list .0) _ refl (omega arith)
 
 levels-requires : tie.Need-levels-requires
 levels-requires c κs = search needs
 
 truncate-requires : tie.Need-truncate-requires
-truncate-requires c κs = record { passes = c .before .before .before .before .before .before .before .before .pre; levels = c .levels .ensures; list = omega arith }
+truncate-requires c κs =
+    let start : tie.Start = search in
+    record { passes = start .pre; levels = c .levels .ensures; list = omega arith }
 
 same-length-2 : tie.Need-same-length-2
 same-length-2 c = search needs
 
 returns-2 : tie.Need-returns-2
 returns-2 c =
-    let a = c .before .before .before .before .before .before .before .before .before .before .before .args in
-    accepts (c .before .before .before .before .before .before .before .before .before .before .before .pre) _ (one-list (c .before .before .before .before .before .before .before .before .before .before .before .pre) (asked (a .list .0) (a .n)) (a .list .0) 0 refl (omega arith)) refl (c .before .before .truncate .ensures)
+    let (start, after-truncate) : tie.Start × tie.After-truncate = search in
+    let a = start .args in
+    accepts (start .pre) _ (one-list (start .pre) (asked (a .list .0) (a .n)) (a .list .0) 0 refl (omega arith)) refl (after-truncate .truncate .ensures)
 
 pub truncate-spec : {M : Type 1} → statement M
 truncate-spec =

@@ -23,10 +23,14 @@ of-requires-2 : tie.Need-of-requires-2
 of-requires-2 c κs = search needs
 
 returns : tie.Need-returns
-returns c = c .of .ensures ∙ ap keyTold (sym (c .before .before .a .given .1))
+returns c =
+    let after-a : tie.After-a = search in
+    c .of .ensures ∙ ap keyTold (sym (after-a .a .given .1))
 
 returns-2 : tie.Need-returns-2
-returns-2 c = c .of2 .ensures ∙ ap (λ (k : ℕ). answer k 0 0 0 0) (c .before .refusal-number .ensures) ∙ ap keyTold (sym (c .before .before .before .a2 .given .1))
+returns-2 c =
+    let (after-a2, after-refusal-number) : tie.After-a2 × tie.After-refusal-number = search in
+    c .of2 .ensures ∙ ap (λ (k : ℕ). answer k 0 0 0 0) (after-refusal-number .refusal-number .ensures) ∙ ap keyTold (sym (after-a2 .a2 .given .1))
 
 pub of-key-spec : {M : Type 1} → statement M
 of-key-spec =

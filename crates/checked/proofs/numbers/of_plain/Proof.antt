@@ -26,7 +26,9 @@ returns : tie.Need-returns
 returns c = c .of .ensures ∙ ap plainTold (sym (c .before .enum-told .given .1))
 
 returns-2 : tie.Need-returns-2
-returns-2 c = c .of2 .ensures ∙ ap (λ (k : ℕ). answer k 0 0 0 0) (c .before .refusal-number .ensures) ∙ ap plainTold (sym (c .before .before .before .a .given .1))
+returns-2 c =
+    let (after-a, after-refusal-number) : tie.After-a × tie.After-refusal-number = search in
+    c .of2 .ensures ∙ ap (λ (k : ℕ). answer k 0 0 0 0) (after-refusal-number .refusal-number .ensures) ∙ ap plainTold (sym (after-a .a .given .1))
 
 pub of-plain-spec : {M : Type 1} → statement M
 of-plain-spec =

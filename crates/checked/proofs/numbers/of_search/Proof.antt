@@ -35,16 +35,24 @@ of-requires-4 : tie.Need-of-requires-4
 of-requires-4 c κs = search needs
 
 returns : tie.Need-returns
-returns c = c .of .ensures ∙ ap searchTold (sym (c .before .before .a .given .1))
+returns c =
+    let after-a : tie.After-a = search in
+    c .of .ensures ∙ ap searchTold (sym (after-a .a .given .1))
 
 returns-2 : tie.Need-returns-2
-returns-2 c = c .of2 .ensures ∙ ap searchTold (sym (c .before .before .a2 .given .1))
+returns-2 c =
+    let after-a2 : tie.After-a2 = search in
+    c .of2 .ensures ∙ ap searchTold (sym (after-a2 .a2 .given .1))
 
 returns-3 : tie.Need-returns-3
-returns-3 c = c .of3 .ensures ∙ ap searchTold (sym (c .before .before .a3 .given .1))
+returns-3 c =
+    let after-a3 : tie.After-a3 = search in
+    c .of3 .ensures ∙ ap searchTold (sym (after-a3 .a3 .given .1))
 
 returns-4 : tie.Need-returns-4
-returns-4 c = c .of4 .ensures ∙ ap (λ (k : ℕ). answer k 0 0 0 0) (c .before .refusal-number .ensures) ∙ ap searchTold (sym (c .before .before .before .a4 .given .1))
+returns-4 c =
+    let (after-a4, after-refusal-number) : tie.After-a4 × tie.After-refusal-number = search in
+    c .of4 .ensures ∙ ap (λ (k : ℕ). answer k 0 0 0 0) (after-refusal-number .refusal-number .ensures) ∙ ap searchTold (sym (after-a4 .a4 .given .1))
 
 pub of-search-spec : {M : Type 1} → statement M
 of-search-spec =

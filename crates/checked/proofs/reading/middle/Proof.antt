@@ -14,7 +14,9 @@ lists-requires : tie.Need-lists-requires
 lists-requires c κs = search needs
 
 returns : tie.Need-returns
-returns c = no-list (c .before .before .before .before .pre) _ (c .before .before .before .before .args .list .0) _ refl (omega arith)
+returns c =
+    let start : tie.Start = search in
+    no-list (start .pre) _ (start .args .list .0) _ refl (omega arith)
 
 levels-requires : tie.Need-levels-requires
 levels-requires c κs = search needs
@@ -24,17 +26,19 @@ length-requires c κs = search needs
 
 returns-2 : tie.Need-returns-2
 returns-2 c =
-    let a = c .before .before .before .before .before .before .before .args in
-    past-end (c .before .before .before .before .before .before .before .pre) _ (a .list .0) 0 (length (nodes (a .w .now) (a .list .0))) refl (omega arith) (omega arith)
+    let start : tie.Start = search in
+    let a = start .args in
+    past-end (start .pre) _ (a .list .0) 0 (length (nodes (a .w .now) (a .list .0))) refl (omega arith) (omega arith)
 
 middle-requires : tie.Need-middle-requires
 middle-requires c κs = (search needs, omega (arith, c .if2 .left))
 
 returns-3 : tie.Need-returns-3
 returns-3 c =
-    let a = c .before .before .before .before .before .before .before .before .args in
-    accepts (c .before .before .before .before .before .before .before .before .pre) _ (before-end (c .before .before .before .before .before .before .before .before .pre) (asked (a .list .0)) (a .list .0) 0 (length (nodes (a .w .now) (a .list .0))) refl (omega arith) (omega arith))
-    (ap (λ (k : ℕ). answer 0 0 0 k 0) (c .middle .ensures)) (c .before .before .before .before .before .before .before .before .pre .words)
+    let start : tie.Start = search in
+    let a = start .args in
+    accepts (start .pre) _ (before-end (start .pre) (asked (a .list .0)) (a .list .0) 0 (length (nodes (a .w .now) (a .list .0))) refl (omega arith) (omega arith))
+    (ap (λ (k : ℕ). answer 0 0 0 k 0) (c .middle .ensures)) (start .pre .words)
 
 pub middle-spec : {M : Type 1} → statement M
 middle-spec =

@@ -14,7 +14,9 @@ lists-requires : tie.Need-lists-requires
 lists-requires c κs = search needs
 
 returns : tie.Need-returns
-returns c = no-list (c .before .before .before .before .pre) _ (c .before .before .before .before .args .list .0) _ refl (omega arith)
+returns c =
+    let start : tie.Start = search in
+    no-list (start .pre) _ (start .args .list .0) _ refl (omega arith)
 
 levels-requires : tie.Need-levels-requires
 levels-requires c κs = search needs
@@ -24,17 +26,21 @@ length-requires c κs = search needs
 
 returns-2 : tie.Need-returns-2
 returns-2 c =
-    let a = c .before .before .before .before .before .before .before .before .args in
-    past-end (c .before .before .before .before .before .before .before .before .pre) _ (a .list .0) (a .i .0) (length (nodes (a .w .now) (a .list .0))) refl (omega arith) (omega arith)
+    let start : tie.Start = search in
+    let a = start .args in
+    past-end (start .pre) _ (a .list .0) (a .i .0) (length (nodes (a .w .now) (a .list .0))) refl (omega arith) (omega arith)
 
 read-requires : tie.Need-read-requires
-read-requires c κs = (record { passes = c .before .before .before .before .before .before .before .before .pre; levels = c .before .before .before .levels .ensures; list = omega arith }, omega arith)
+read-requires c κs =
+    let (start, m) : tie.Start × tie.After-levels = search in
+    (record { passes = start .pre; levels = m .levels .ensures; list = omega arith }, omega arith)
 
 returns-3 : tie.Need-returns-3
 returns-3 c =
-    let a = c .before .before .before .before .before .before .before .before .before .args in
-    accepts (c .before .before .before .before .before .before .before .before .before .pre) _ (before-end (c .before .before .before .before .before .before .before .before .before .pre) (asked (a .list .0) (a .i .0)) (a .list .0) (a .i .0) (length (nodes (a .w .now) (a .list .0))) refl (omega arith) (omega arith))
-    (ap (λ (k : ℕ). answer 0 0 0 k 0) (c .read .ensures)) (c .before .before .before .before .before .before .before .before .before .pre .words)
+    let start : tie.Start = search in
+    let a = start .args in
+    accepts (start .pre) _ (before-end (start .pre) (asked (a .list .0) (a .i .0)) (a .list .0) (a .i .0) (length (nodes (a .w .now) (a .list .0))) refl (omega arith) (omega arith))
+    (ap (λ (k : ℕ). answer 0 0 0 k 0) (c .read .ensures)) (start .pre .words)
 
 pub read-spec : {M : Type 1} → statement M
 read-spec =

@@ -10,7 +10,9 @@ lists-requires : tie.Need-lists-requires
 lists-requires c κs = search needs
 
 returns : tie.Need-returns
-returns c = no-list (c .before .before .before .before .pre) _ (c .before .before .before .before .args .list .0) _ refl (omega arith)
+returns c =
+    let start : tie.Start = search in
+    no-list (start .pre) _ (start .args .list .0) _ refl (omega arith)
 
 levels-requires : tie.Need-levels-requires
 levels-requires c κs = search needs
@@ -22,7 +24,9 @@ carried-requires : tie.Need-carried-requires
 carried-requires c κs = search needs
 
 returns-2 : tie.Need-returns-2
-returns-2 c = reads (c .before .before .before .before .before .before .before .pre) _ refl (c .carried .ensures ∙ c .before .search .ensures)
+returns-2 c =
+    let (start, after-search) : tie.Start × tie.After-search = search in
+    reads (start .pre) _ refl (c .carried .ensures ∙ after-search .search .ensures)
 
 pub search-spec : {M : Type 1} → statement M
 search-spec =

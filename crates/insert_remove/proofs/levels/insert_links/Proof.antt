@@ -1,4 +1,5 @@
 -- `insert_remove::levels::insert_links` meets its contract: after l turns the links of the levels below l are those of the new model.
+use borrow.Author.Needs.{needs}
 use Prim.Native.Nat.{ℕ, _-_, _≤_}
 use mathlib.Core.Path.{_≡_}
 use native.Mathlib.Omega.{arith}
@@ -7,7 +8,7 @@ use Rattle.model.specs.Passes.{decode}
 use Rattle.arena.specs.Owners.{Before}
 use Rattle.arena.proofs.Relink.{Relinked}
 use Rattle.insert_remove.specs.Changes.{insertedAt, Enters}
-use Rattle.insert_remove.proofs.InsertLinks.{small, insert-start, insert-size, inserted, rank-le, level-is, turn}
+use Rattle.insert_remove.proofs.InsertLinks.{insert-start, insert-size, inserted, rank-le, level-is, turn}
 use Rattle.insert_remove.proofs.levels.insert_links.Statement.{statement}
 use Rattle.insert_remove.proofs.levels.insert_links.Tie as tie
 
@@ -17,6 +18,19 @@ Inv-loop w₀ m key height o slots ranks place h l₀ w l =
 
 abbrev μ-loop : tie.MeasureT-loop
 μ-loop w₀ m key height o slots ranks place h l₀ w l = m - l
+
+-- the places that the answers cite
+abbrev Start : Type 0
+Start = tie.Start Inv-loop μ-loop
+
+abbrev After-before2 : Type 0
+After-before2 = tie.After-before2 Inv-loop μ-loop
+
+abbrev At-loop : Type 0
+At-loop = tie.At-loop Inv-loop μ-loop
+
+abbrev In-loop : Type 0
+In-loop = tie.In-loop Inv-loop μ-loop
 
 before-requires : tie.Need-before-requires Inv-loop μ-loop
 before-requires c κs = tt
@@ -28,37 +42,53 @@ loop-holds : tie.Need-loop-holds Inv-loop μ-loop
 loop-holds c = ((λ a i e p q. insert-start p), omega arith)
 
 mul-t19 : tie.Need-mul-t19 Inv-loop μ-loop
-mul-t19 c = omega (arith, small (c .before .before .before .before .before .before .before .before .pre .0 .0), c .before .loop-test .taken)
+mul-t19 c = search needs
 
 array-read-t22 : tie.Need-array-read-t22 Inv-loop μ-loop
-array-read-t22 c = omega (arith, small (c .before .before .before .before .before .before .before .before .pre .0 .0), c .before .loop-test .taken)
+array-read-t22 c = search needs
 
 mul-insert-level : tie.Need-mul-insert-level Inv-loop μ-loop
-mul-insert-level c = omega (arith, small (c .before .before .before .before .before .before .before .before .pre .0 .0), c .before .loop-test .taken)
+mul-insert-level c = search needs
 
 array-read-insert-level : tie.Need-array-read-insert-level Inv-loop μ-loop
-array-read-insert-level c = omega (arith, small (c .before .before .before .before .before .before .before .before .pre .0 .0), c .before .loop-test .taken)
+array-read-insert-level c = search needs
 
 sub-insert-level : tie.Need-sub-insert-level Inv-loop μ-loop
-sub-insert-level c = rank-le (c .before .before .before .before .before .before .before .before .pre .0 .0) (c .before .before .before .before .before .before .before .before .pre .0 .1 .before) (c .before .before .loop .inv .0 _ _ (c .before .before .before .before .before2 .ensures) (c .before .before .before .before .before .before .before .before .pre .0 .0) (c .before .before .before .before .before .before .before .before .pre .0 .1 .before)) (c .before .loop-test .taken) (c .before .before .before .before .before2 .ensures)
+sub-insert-level c =
+    let (start, after-before2, at-loop, in-loop) : Start × After-before2 × At-loop × In-loop = search in
+    rank-le (start .pre .0 .0) (start .pre .0 .1 .before) (at-loop .loop .inv .0 _ _ (after-before2 .before2 .ensures) (start .pre .0 .0) (start .pre .0 .1 .before)) (in-loop .loop-test .taken) (after-before2 .before2 .ensures)
 
 insert-level-requires : tie.Need-insert-level-requires Inv-loop μ-loop
-insert-level-requires c κs = level-is (c .before .before .before .before .before .before .before .before .pre .0 .0) (c .before .before .before .before .before .before .before .before .pre .0 .1 .before) (c .before .before .loop .inv .0 _ _ (c .before .before .before .before .before2 .ensures) (c .before .before .before .before .before .before .before .before .pre .0 .0) (c .before .before .before .before .before .before .before .before .pre .0 .1 .before)) (c .before .loop-test .taken) (c .before .before .before .before .before2 .ensures) (c .before .before .before .before .before .before .before .before .pre .1)
+insert-level-requires c κs =
+    let (start, after-before2, at-loop, in-loop) : Start × After-before2 × At-loop × In-loop = search in
+    level-is (start .pre .0 .0) (start .pre .0 .1 .before) (at-loop .loop .inv .0 _ _ (after-before2 .before2 .ensures) (start .pre .0 .0) (start .pre .0 .1 .before)) (in-loop .loop-test .taken) (after-before2 .before2 .ensures) (start .pre .1)
 
 add-l : tie.Need-add-l Inv-loop μ-loop
-add-l c = omega (arith, small (c .before .before .before .before .before .before .before .before .before .before .before .pre .0 .0), c .before .before .before .before .loop-test .taken)
+add-l c = search needs
 
 loop-less : tie.Need-loop-less Inv-loop μ-loop
-loop-less c = omega (arith, c .before .before .before .before .loop-test .taken)
+loop-less c = search needs
 
 loop-again : tie.Need-loop-again Inv-loop μ-loop
-loop-again c = ((λ a i e p q. turn p q (c .before .before .before .before .before .loop .inv .0 a i e p q) (c .before .before .before .before .loop-test .taken) e (c .before .before .before .before .before .before .before .before .before .before .before .pre .1) (c .before .before .before .before .before .before .wide .ensures) (c .before .before .insert-level .ensures)), omega (arith, c .before .before .before .before .loop-test .taken))
+loop-again c =
+    let known : record {
+      start : Start;
+      h : tie.After-wide Inv-loop μ-loop;
+      at-loop : At-loop;
+      in-loop : In-loop;
+      after-insert-level : tie.After-insert-level Inv-loop μ-loop;
+    } = search in
+    ((λ a i e p q. turn p q (known .at-loop .loop .inv .0 a i e p q) (known .in-loop .loop-test .taken) e (known .start .pre .1) (known .h .wide .ensures) (known .after-insert-level .insert-level .ensures)), omega (arith, known .in-loop .loop-test .taken))
 
 same-length : tie.Need-same-length Inv-loop μ-loop
-same-length c = insert-size (c .before .before .before .before .before .before .before .pre .0 .0) (c .before .loop .inv .0 _ _ (c .before .before .before .before2 .ensures) (c .before .before .before .before .before .before .before .pre .0 .0) (c .before .before .before .before .before .before .before .pre .0 .1 .before))
+same-length c =
+    let (start, after-before2, at-loop) : Start × After-before2 × At-loop = search in
+    insert-size (start .pre .0 .0) (at-loop .loop .inv .0 _ _ (after-before2 .before2 .ensures) (start .pre .0 .0) (start .pre .0 .1 .before))
 
 returns : tie.Need-returns Inv-loop μ-loop
-returns c = inserted (c .before .before .before .before .before .before .before .pre .0 .0) (c .before .loop .inv .0 _ _ (c .before .before .before .before2 .ensures) (c .before .before .before .before .before .before .before .pre .0 .0) (c .before .before .before .before .before .before .before .pre .0 .1 .before)) (c .before .loop .inv .1) (c .loop-test .left)
+returns c =
+    let (start, after-before2, at-loop) : Start × After-before2 × At-loop = search in
+    inserted (start .pre .0 .0) (at-loop .loop .inv .0 _ _ (after-before2 .before2 .ensures) (start .pre .0 .0) (start .pre .0 .1 .before)) (at-loop .loop .inv .1) (c .loop-test .left)
 
 pub insert-links-spec : {M : Type 1} → statement M
 insert-links-spec =

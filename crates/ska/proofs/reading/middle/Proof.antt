@@ -11,7 +11,9 @@ middle-requires : tie.Need-middle-requires
 middle-requires c κs = c .before .check .ensures .sound (c .if1 .taken)
 
 returns : tie.Need-returns
-returns c = whole (c .before .before .check .ensures .sound (c .before .if1 .taken)) (c .middle .ensures)
+returns c =
+    let (after-check, then1) : tie.After-check × tie.Then1 = search in
+    whole (after-check .check .ensures .sound (then1 .if1 .taken)) (c .middle .ensures)
 
 returns-2 : tie.Need-returns-2
 returns-2 c = broken (c .before .check .ensures) (c .if1 .left) _

@@ -20,7 +20,9 @@ returns : tie.Need-returns
 returns c = ap keyTold (sym (c .before .a .given .1))
 
 returns-2 : tie.Need-returns-2
-returns-2 c = ap (λ (n : ℕ). answer n 0 0 0 0) (c .refusal-number .ensures) ∙ ap keyTold (sym (c .before .before .a2 .given .1))
+returns-2 c =
+    let after-a2 : tie.After-a2 = search in
+    ap (λ (n : ℕ). answer n 0 0 0 0) (c .refusal-number .ensures) ∙ ap keyTold (sym (after-a2 .a2 .given .1))
 
 pub key-numbers-spec : {M : Type 1} → statement M
 key-numbers-spec =

@@ -20,7 +20,9 @@ returns : tie.Need-returns
 returns c = search needs
 
 returns-2 : tie.Need-returns-2
-returns-2 c = ap (λ (n : ℕ). answer n 0 0 0 0) (c .refusal-number .ensures) ∙ ap plainTold (sym (c .before .before .a .given .1))
+returns-2 c =
+    let after-a : tie.After-a = search in
+    ap (λ (n : ℕ). answer n 0 0 0 0) (c .refusal-number .ensures) ∙ ap plainTold (sym (after-a .a .given .1))
 
 pub plain-number-spec : {M : Type 1} → statement M
 plain-number-spec =

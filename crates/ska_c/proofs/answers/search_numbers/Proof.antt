@@ -35,16 +35,24 @@ refused-requires-2 : tie.Need-refused-requires-2
 refused-requires-2 c κs = search needs
 
 returns : tie.Need-returns
-returns c = c .walked .ensures ∙ ap searchTold (sym (c .before .before .a .given .1))
+returns c =
+    let after-a : tie.After-a = search in
+    c .walked .ensures ∙ ap searchTold (sym (after-a .a .given .1))
 
 returns-2 : tie.Need-returns-2
-returns-2 c = c .walked2 .ensures ∙ ap searchTold (sym (c .before .before .a2 .given .1))
+returns-2 c =
+    let after-a2 : tie.After-a2 = search in
+    c .walked2 .ensures ∙ ap searchTold (sym (after-a2 .a2 .given .1))
 
 returns-3 : tie.Need-returns-3
-returns-3 c = c .refused .ensures ∙ ap searchTold (sym (c .before .before .a3 .given .1))
+returns-3 c =
+    let after-a3 : tie.After-a3 = search in
+    c .refused .ensures ∙ ap searchTold (sym (after-a3 .a3 .given .1))
 
 returns-4 : tie.Need-returns-4
-returns-4 c = c .refused2 .ensures ∙ ap (λ (n : ℕ). answer n 0 0 0 0) (c .before .refusal-number .ensures) ∙ ap searchTold (sym (c .before .before .before .a4 .given .1))
+returns-4 c =
+    let (after-a4, after-refusal-number) : tie.After-a4 × tie.After-refusal-number = search in
+    c .refused2 .ensures ∙ ap (λ (n : ℕ). answer n 0 0 0 0) (after-refusal-number .refusal-number .ensures) ∙ ap searchTold (sym (after-a4 .a4 .given .1))
 
 pub search-numbers-spec : {M : Type 1} → statement M
 search-numbers-spec =

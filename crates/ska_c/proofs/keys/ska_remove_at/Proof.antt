@@ -14,7 +14,9 @@ same-length : tie.Need-same-length
 same-length c = search needs
 
 returns : tie.Need-returns
-returns c = carried (c .key-numbers .ensures) (c .before .before .before .remove-at .ensures)
+returns c =
+    let after-remove-at : tie.After-remove-at = search in
+    carried (c .key-numbers .ensures) (after-remove-at .remove-at .ensures)
 
 pub ska-remove-at-spec : {M : Type 1} → statement M
 ska-remove-at-spec =

@@ -14,7 +14,9 @@ same-length : tie.Need-same-length
 same-length c = search needs
 
 returns : tie.Need-returns
-returns c = carried (c .key-numbers .ensures) (c .before .before .before .remove-key .ensures)
+returns c =
+    let after-remove-key : tie.After-remove-key = search in
+    carried (c .key-numbers .ensures) (after-remove-key .remove-key .ensures)
 
 pub ska-remove-key-spec : {M : Type 1} → statement M
 ska-remove-key-spec =

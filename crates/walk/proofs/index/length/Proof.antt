@@ -10,7 +10,9 @@ cell-requires : tie.Need-cell-requires
 cell-requires c κs = cell-here (standing 0 (c .before .pre) (omega arith) refl) 0 (omega arith)
 
 returns : tie.Need-returns
-returns c = c .cell .ensures ∙ length-cell (c .before .before .pre)
+returns c =
+    let start : tie.Start = search in
+    c .cell .ensures ∙ length-cell (start .pre)
 
 pub length-spec : {M : Type 1} → statement M
 length-spec = tie.close (tie.spec cell-requires returns)

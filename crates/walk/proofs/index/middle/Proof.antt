@@ -18,7 +18,9 @@ read-requires : tie.Need-read-requires
 read-requires c κs = search needs
 
 returns : tie.Need-returns
-returns c = c .read .ensures ∙ ap (λ (n : ℕ). keyAt (nodes (c .before .before .before .args .w .now) (c .before .before .before .args .list .0)) ((n - 1) / 2)) (c .before .length .ensures)
+returns c =
+    let (start, after-length) : tie.Start × tie.After-length = search in
+    c .read .ensures ∙ ap (λ (n : ℕ). keyAt (nodes (start .args .w .now) (start .args .list .0)) ((n - 1) / 2)) (after-length .length .ensures)
 
 pub middle-spec : {M : Type 1} → statement M
 middle-spec = tie.close (tie.spec length-requires sub-t5 read-requires returns)

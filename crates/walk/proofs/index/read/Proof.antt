@@ -14,10 +14,14 @@ reach-requires : tie.Need-reach-requires
 reach-requires c κs = search needs
 
 cell-requires : tie.Need-cell-requires
-cell-requires c κs = let p = c .before .before .before .pre in cell-here (standing (c .before .from-index .result .0) (p .0) (omega (arith, c .before .from-index .ensures, p .1)) (c .reach .ensures)) 0 (omega arith)
+cell-requires c κs =
+    let (start, after-from-index) : tie.Start × tie.After-from-index = search in
+    let p = start .pre in cell-here (standing (after-from-index .from-index .result .0) (p .0) (omega (arith, after-from-index .from-index .ensures, p .1)) (c .reach .ensures)) 0 (omega arith)
 
 returns : tie.Need-returns
-returns c = let p = c .before .before .before .before .pre in c .cell .ensures ∙ owner-key (standing (c .before .before .from-index .result .0) (p .0) (omega (arith, c .before .before .from-index .ensures, p .1)) (c .before .reach .ensures)) _ (omega (arith, c .before .before .from-index .ensures))
+returns c =
+    let (start, after-from-index, s) : tie.Start × tie.After-from-index × tie.After-reach = search in
+    let p = start .pre in c .cell .ensures ∙ owner-key (standing (after-from-index .from-index .result .0) (p .0) (omega (arith, after-from-index .from-index .ensures, p .1)) (s .reach .ensures)) _ (omega (arith, after-from-index .from-index .ensures))
 
 pub read-spec : {M : Type 1} → statement M
 read-spec = tie.close (tie.spec from-index-requires reach-requires cell-requires returns)

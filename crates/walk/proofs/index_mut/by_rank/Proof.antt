@@ -7,8 +7,17 @@ use borrow.Author.Needs.{needs}
 use Rattle.walk.proofs.index_mut.by_rank.Statement.{statement}
 use Rattle.walk.proofs.index_mut.by_rank.Tie as tie
 
+record Known-after-seek2 : Type 0 where
+  start : tie.Start
+  after-length : tie.After-length
+  else2 : tie.Else2
+  after-to-index : tie.After-to-index
+  after-seek2 : tie.After-seek2
+
 returns : tie.Need-returns
-returns c = ranked-head (c .before .before .before .before .pre) _ (c .if1 .taken)
+returns c =
+    let start : tie.Start = search in
+    ranked-head (start .pre) _ (c .if1 .taken)
 
 length-requires : tie.Need-length-requires
 length-requires c κs = search needs
@@ -17,7 +26,14 @@ seek-requires : tie.Need-seek-requires
 seek-requires c κs = search needs
 
 returns-2 : tie.Need-returns-2
-returns-2 c = ranked-past (c .before .before .before .before .before .before .before .before .before .before .pre) _ _ _ (c .before .before .seek .ensures) (c .before .before .before .before .before .length .ensures) (c .before .before .before .if2 .taken)
+returns-2 c =
+    let known : record {
+      start : tie.Start;
+      after-length : tie.After-length;
+      then2 : tie.Then2;
+      after-seek : tie.After-seek;
+    } = search in
+    ranked-past (known .start .pre) _ _ _ (known .after-seek .seek .ensures) (known .after-length .length .ensures) (known .then2 .if2 .taken)
 
 to-index-requires : tie.Need-to-index-requires
 to-index-requires c κs = search needs
@@ -26,10 +42,14 @@ seek-requires-2 : tie.Need-seek-requires-2
 seek-requires-2 c κs = search needs
 
 cell-requires : tie.Need-cell-requires
-cell-requires c κs = cell-here (standing (c .before .before .before .to-index .result .0) (c .before .before .before .before .before .before .before .before .before .before .before .pre) (omega (arith, c .before .before .before .to-index .ensures, c .before .before .before .before .if2 .left, c .before .before .before .before .before .before .length .ensures)) (c .before .before .seek2 .ensures .end)) 2 (omega arith)
+cell-requires c κs =
+    let known : Known-after-seek2 = search in
+    cell-here (standing (known .after-to-index .to-index .result .0) (known .start .pre) (omega (arith, known .after-to-index .to-index .ensures, known .else2 .if2 .left, known .after-length .length .ensures)) (known .after-seek2 .seek2 .ensures .end)) 2 (omega arith)
 
 returns-3 : tie.Need-returns-3
-returns-3 c = ranked-there (c .before .before .before .before .before .before .before .before .before .before .before .before .pre) _ _ _ (c .before .before .before .seek2 .ensures) (c .before .before .before .before .to-index .ensures) (omega (arith, c .before .before .before .before .before .if2 .left, c .before .before .before .before .before .before .before .length .ensures)) _ (c .cell .ensures)
+returns-3 c =
+    let known : Known-after-seek2 = search in
+    ranked-there (known .start .pre) _ _ _ (known .after-seek2 .seek2 .ensures) (known .after-to-index .to-index .ensures) (omega (arith, known .else2 .if2 .left, known .after-length .length .ensures)) _ (c .cell .ensures)
 
 pub by-rank-spec : {M : Type 1} → statement M
 by-rank-spec =

@@ -15,10 +15,14 @@ enum-told : tie.Need-enum-told
 enum-told c = search needs
 
 returns : tie.Need-returns
-returns c = answers-beyond _ _ (c .before .before .before .before .pre) (rw (c .enum-told .given .1) at (c .before .before .descend .ensures))
+returns c =
+    let (start, after-descend) : tie.Start × tie.After-descend = search in
+    answers-beyond _ _ (start .pre) (rw (c .enum-told .given .1) at (after-descend .descend .ensures))
 
 follow-requires : tie.Need-follow-requires
-follow-requires c κs = rw (c .before .v .given .1) at (c .before .before .before .descend .ensures)
+follow-requires c κs =
+    let (after-descend, after-v) : tie.After-descend × tie.After-v = search in
+    rw (after-v .v .given .1) at (after-descend .descend .ensures)
 
 returns-2 : tie.Need-returns-2
 returns-2 c = search needs

@@ -7,7 +7,9 @@ returns : tie.Need-returns
 returns c = search needs
 
 cell-requires : tie.Need-cell-requires
-cell-requires c κs = c .before .before .before .before .pre (c .if1 .left)
+cell-requires c κs =
+    let start : tie.Start = search in
+    start .pre (c .if1 .left)
 
 returns-2 : tie.Need-returns-2
 returns-2 c = search needs

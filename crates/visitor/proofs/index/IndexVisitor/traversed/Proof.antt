@@ -17,18 +17,18 @@ reach-requires c κs = search needs
 
 returns : tie.Need-returns
 returns c =
-    let b = c .before .before .before .before in
-    let g = b .before .before .before .before .args in
-    visit-past (g .w .now) (g .m) (g .self) (omega (arith, b .length .ensures, c .before .before .if1 .taken)) (c .reach .result) (c .before .before2 .result) (omega (arith, b .length .ensures, c .before .before2 .ensures)) (c .reach .ensures)
+    let (start, b, then1, after-before2) : tie.Start × tie.After-length × tie.Then1 × tie.After-before2 = search in
+    let g = start .args in
+    visit-past (g .w .now) (g .m) (g .self) (omega (arith, b .length .ensures, then1 .if1 .taken)) (c .reach .result) (after-before2 .before2 .result) (omega (arith, b .length .ensures, after-before2 .before2 .ensures)) (c .reach .ensures)
 
 reach-requires-2 : tie.Need-reach-requires-2
 reach-requires-2 c κs = search needs
 
 returns-2 : tie.Need-returns-2
 returns-2 c =
-    let b = c .before .before .before in
-    let g = b .before .before .before .before .args in
-    visit-there (g .w .now) (g .m) (g .self) (omega (arith, b .length .ensures, c .before .if1 .left)) (c .reach2 .result) (c .reach2 .ensures)
+    let (start, b, else1) : tie.Start × tie.After-length × tie.Else1 = search in
+    let g = start .args in
+    visit-there (g .w .now) (g .m) (g .self) (omega (arith, b .length .ensures, else1 .if1 .left)) (c .reach2 .result) (c .reach2 .ensures)
 
 pub traversed-spec : {M : Type 1} → statement M
 traversed-spec =
