@@ -1,4 +1,4 @@
-pub mod Saying
+pub mod Deciding
 pub mod Places
 pub mod Cells
 pub mod Relink

@@ -4,33 +4,23 @@ use mathlib.Core.Path.{_≡_, refl, sym, ap, _∙_, subst}
 use mathlib.Core.List.{List}
 use lib.ListN.{length, take, drop, getD}
 use lib.Seq.{split-at}
-use native.Mathlib.Nat.{not-suc-le-zero, add-zero, mul-le-mul-right}
+use native.Mathlib.Nat.{mul-le-mul-right}
 use native.Mathlib.Omega.{arith}
-use borrow.Author.Tests.{lt-ltb}
+use borrow.Author.Tests.{lt-ltb, le-leb}
 use Rattle.arena.specs.Owners.{Owner}
-use Rattle.model.specs.Arena.{headerWords, width, toColumn, farColumn, State, nodeLinks, nodeWords, headWords, firstSlot, encode, listOf}
-use Rattle.model.specs.Cells.{recordAt, cellAt}
-use Rattle.model.specs.Links.{target, distance}
+use Rattle.model.specs.Arena.{headerWords, width, toColumn, State, nodeWords, headWords, firstSlot, encode, listOf}
+use Rattle.model.specs.Cells.{recordAt, cellAt, linkAt}
+use Rattle.model.specs.Links.{linkOf}
 use Rattle.model.specs.Nodes.{Node, node, N, slotAt, heightAt, at}
 use Rattle.model.specs.Passes.{decode, times, Sound, Passes, nodes}
-use Rattle.model.proofs.Columns.{cell-record, length-encode}
+use Rattle.model.proofs.Columns.{cell-record, link-is, length-encode}
+use Rattle.model.proofs.Owners.{Column, link-column}
 use Rattle.model.proofs.Records.{rec-encode, record-node, placed, times-mid, timesAll-ge}
-use Rattle.model.proofs.Tests.{hit, miss, test}
 
-link-words : (l₀ n ht : ℕ) (ys : List Node) (l : ℕ) → l < n → l₀ + l < ht
-    → (getD (nodeLinks l₀ n ht ys) (2 * l) 0 ≡ target (suc (l₀ + l)) ys) × (getD (nodeLinks l₀ n ht ys) (suc (2 * l)) 0 ≡ distance (suc (l₀ + l)) ys)
-link-words l₀ zero ht ys l p q = absurd (not-suc-le-zero p)
-link-words l₀ (suc n) ht ys zero p q = rw (lt-ltb l₀ ht (omega arith), add-zero l₀) (refl, refl)
-link-words l₀ (suc n) ht ys (suc l) p q =
-    let e : 2 * suc l ≡ suc (suc (2 * l)) = omega arith in
-    let f : l₀ + suc l ≡ suc l₀ + l = omega arith in
-    let i = link-words (suc l₀) n ht ys l (omega arith) (omega arith) in
-    elim (test (suc l₀) ht) [ hit g k ↦ rw (g, e, f) i | miss g k ↦ rw (g, e, f) i ]
-
--- the record of an owner: its next, its links
+-- the record of an owner of height ht that ys follow
 pub record Linked (M ht : ℕ) (ys : List Node) (R : List ℕ) : Type 0 where
   pub next : getD R 2 0 ≡ firstSlot ys
-  pub links : (c : ℕ) → getD R (suc (suc (suc (suc c)))) 0 ≡ getD (nodeLinks 0 M ht ys) c 0
+  pub reads : {c : ℕ} {q : ℕ → List Node → ℕ} → Column M c q → getD R c 0 ≡ q ht ys
 
 module _ (S : State) (v : Sound S) (a : ℕ) (l : a < length (S .lists)) where
   pub slot-known : (r : ℕ) → r ≤ length (listOf S a) → slotAt a (listOf S a) r < length (S .lists) + S .room
@@ -49,8 +39,8 @@ module _ (S : State) (v : Sound S) (a : ℕ) (l : a < length (S .lists)) where
       → Linked (S .levels) (heightAt (S .levels) (listOf S a) r) (drop r (listOf S a)) (recordAt (S .levels) (encode S) (slotAt a (listOf S a) r))
   owner-record zero k =
       let e : recordAt (S .levels) (encode S) a ≡ headWords (S .levels) (listOf S a) = rec-encode S a (omega arith) ∙ (rw (lt-ltb a (length (S .lists)) l) refl) in
-      rw e (record { next = refl; links = λ c. refl })
-  owner-record (suc i) k = rw (node-record i k) (record { next = refl; links = λ c. refl })
+      rw e (record { next = refl; reads = λ q. q .head (listOf S a) })
+  owner-record (suc i) k = rw (node-record i k) (record { next = refl; reads = λ q. q .node (at (listOf S a) i) (drop (suc i) (listOf S a)) })
 
 module _ (w : List ℕ) (p : Passes w) where
   words-length : length w ≡ 8 + (length (decode w .lists) + decode w .room) * (width (decode w .levels))
@@ -79,23 +69,13 @@ module _ {w : List ℕ} {a r s h : ℕ} (o : Owner w a r s h) where
   pub linked : Linked (decode w .levels) (heightAt (decode w .levels) (nodes w a) r) (drop r (nodes w a)) (recordAt (decode w .levels) w s)
   linked = rw (here w (o .passes) (decode w .levels) s, o .slot-is) (owner-record (decode w) (o .passes .sound) a (o .list) r (o .within))
 
-  pub link-to : (l : ℕ) → suc l ≡ h → getD (recordAt (decode w .levels) w s) (toColumn l) 0 ≡ target h (drop r (nodes w a))
-  link-to l e =
+  pub its-link : (l : ℕ) → suc l ≡ h → linkAt (decode w .levels) w s l ≡ linkOf h (drop r (nodes w a))
+  its-link l e =
       let M = decode w .levels in
       let ys = drop r (nodes w a) in
-      let four : toColumn l ≡ suc (suc (suc (suc (2 * l)))) = omega arith in
-      let k : suc (0 + l) ≡ h = omega arith in
-      ap (λ (c : ℕ). getD (recordAt M w s) c 0) four ∙ linked .links (2 * l)
-      ∙ link-words 0 M (heightAt M (nodes w a) r) ys l (omega arith) (omega (arith, o .tall)) .0 ∙ ap (λ (g : ℕ). target g ys) k
-
-  pub link-far : (l : ℕ) → suc l ≡ h → getD (recordAt (decode w .levels) w s) (farColumn l) 0 ≡ distance h (drop r (nodes w a))
-  link-far l e =
-      let M = decode w .levels in
-      let ys = drop r (nodes w a) in
-      let five : farColumn l ≡ suc (suc (suc (suc (suc (2 * l))))) = omega arith in
-      let k : suc (0 + l) ≡ h = omega arith in
-      ap (λ (c : ℕ). getD (recordAt M w s) c 0) five ∙ linked .links (suc (2 * l))
-      ∙ link-words 0 M (heightAt M (nodes w a) r) ys l (omega arith) (omega (arith, o .tall)) .1 ∙ ap (λ (g : ℕ). distance g ys) k
+      link-is M w s l (linkOf h ys) refl (λ j q.
+      cell-record M w s (toColumn l + j) (omega (arith, o .level)) ∙ linked .reads (link-column M l j (omega (arith, o .level)) q)
+      ∙ (rw (e, le-leb h (heightAt M (nodes w a) r) (o .tall)) refl))
 
 -- the head's first word is the length
 pub length-word : (w : List ℕ) (p : Passes w) (a : ℕ) → a < length (decode w .lists) → length (nodes w a) ≡ cellAt (decode w .levels) w a 0

@@ -3,9 +3,9 @@ use Prim.Native.Nat.{ℕ, _+_, _≤_}
 use mathlib.Core.List.{List}
 use lib.ListN.{length}
 use Rattle.model.specs.Arena.{width}
-use Rattle.model.specs.Cells.{place}
+use Rattle.model.specs.Cells.{baseOf}
 
 -- The record of slot s lies in the slice.
 pub record Lies (w : List ℕ) (m s : ℕ) : Type 0 where
   pub small : m ≤ 16
-  pub inside : place m s + width m ≤ length w
+  pub inside : baseOf m s + width m ≤ length w

@@ -3,8 +3,8 @@ ghost use mathlib.Core.Path.{_≡_};
 ghost use Prim.Native.Nat.{_+_, _*_, _≤_};
 ghost use Rattle.model.specs.Arena.{headerWords, width};
 ghost use Rattle.model.specs.Calls.{Room};
-ghost use Rattle.model.specs.Cells.{place};
-ghost use Rattle.arena.specs.Says.{Says};
+ghost use Rattle.model.specs.Cells.{baseOf};
+ghost use Rattle.arena.specs.Decides.{Decides};
 use crate::Slot;
 use crate::wide;
 
@@ -62,9 +62,9 @@ pub fn width(m: usize) -> usize
 }
 
 // Where the record of slot s begins.
-pub fn place(m: usize, s: Slot) -> usize
+pub fn base_of(m: usize, s: Slot) -> usize
     requires { ⌜ m ≤ 16 ⌝ }
-    ensures { λ r. ⌜ r ≡ place m (s .0) ⌝ }
+    ensures { λ r. ⌜ r ≡ baseOf m (s .0) ⌝ }
 {
     HEADER + wide(s.0) * width(m)
 }
@@ -79,7 +79,7 @@ pub fn size(l: u32, m: u32, c: u32) -> usize
 
 // Whether L, M, C and the slice's length are right; the ranges come before any product.
 pub fn fits(l: u32, m: u32, c: u32, n: usize) -> bool
-    ensures { λ r. ⌜ Says r (Room l m c n) ⌝ }
+    ensures { λ r. ⌜ Decides r (Room l m c n) ⌝ }
 {
     if l < 1 {
         return false;

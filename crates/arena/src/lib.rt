@@ -2,9 +2,15 @@
 ghost use mathlib.Core.Path.{_≡_};
 ghost use Prim.Native.Nat.{_+_, _<_};
 
+mod keys;
 mod layout;
+mod links;
 mod words;
 
+pub use keys::Key;
+pub use keys::below;
+pub use keys::key_at;
+pub use keys::same;
 pub use layout::COUNT;
 pub use layout::FAR;
 pub use layout::FIRST_FREE_WORD;
@@ -26,10 +32,15 @@ pub use layout::TO;
 pub use layout::VERSION;
 pub use layout::VERSION_WORD;
 pub use layout::ZERO_WORD;
+pub use layout::base_of;
 pub use layout::fits;
-pub use layout::place;
 pub use layout::size;
 pub use layout::width;
+pub use links::Link;
+pub use links::distance_at;
+pub use links::link_at;
+pub use links::put_link;
+pub use links::target_at;
 pub use words::cell;
 pub use words::header;
 pub use words::last_word;

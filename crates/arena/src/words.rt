@@ -8,7 +8,7 @@ ghost use Rattle.model.specs.Nodes.{N};
 ghost use Rattle.model.specs.Arena.{headerWords};
 ghost use Rattle.model.specs.Cells.{Cell, cellAt, putAt};
 use crate::Slot;
-use crate::layout::place;
+use crate::layout::base_of;
 
 pub fn word(w: &[u32], at: usize) -> u32
     requires { ⌜ at < length (now w) ⌝ }
@@ -22,14 +22,14 @@ pub fn cell(w: &[u32], m: usize, s: Slot, c: usize) -> u32
     requires { ⌜ Cell (now w) m (s .0) c ⌝ }
     ensures { λ r. ⌜ r ≡ cellAt m (now (w .entry)) (s .0) c ⌝ }
 {
-    w[place(m, s) + c]
+    w[base_of(m, s) + c]
 }
 
 pub fn put(w: &mut [u32], m: usize, s: Slot, c: usize, v: u32)
     requires { ⌜ Cell (now w) m (s .0) c ⌝ }
     ensures { λ _. ⌜ now (w .exit) ≡ putAt m (now (w .entry)) (s .0) c v ⌝ }
 {
-    let at = place(m, s) + c;
+    let at = base_of(m, s) + c;
     w[at] = v;
 }
 

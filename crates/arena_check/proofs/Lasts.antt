@@ -9,10 +9,10 @@ use Rattle.model.specs.Cells.{cellAt}
 use Rattle.model.specs.Nodes.{N}
 use Rattle.model.proofs.Tests.{hit, miss, test}
 use Rattle.arena_check.specs.declared.Dims.{Dims}
-use Rattle.arena.specs.Says.{Says}
+use Rattle.arena.specs.Decides.{Decides}
 use Rattle.arena_check.specs.Below.{Below}
 use Rattle.arena_check.specs.Sizes.{lengths, Differ}
-use Rattle.arena.proofs.Saying.{say-yes, say-no}
+use Rattle.arena.proofs.Deciding.{say-yes, say-no}
 use Rattle.arena_check.proofs.Levels.{Upto, upto-more}
 
 pub lengths-each : (M : ℕ) (w : List ℕ) (n a : ℕ) → a < n → cellAt M w a 0 ≤ lengths M w n
@@ -27,7 +27,7 @@ pub length-bound : (w : List ℕ) (d : Dims) (a : ℕ) → getD w 6 0 + lengths 
 length-bound w d a e l = omega (arith, lengths-each (d .levels) w (d .lists) a l)
 
 module _ (M : ℕ) (w : List ℕ) (a t : ℕ) (i : t ≡ cellAt M w a 3) where
-  pub last-none : t ≡ N → Says true (Below a (Differ M w a))
+  pub last-none : t ≡ N → Decides true (Below a (Differ M w a))
   unfolding Below Differ
   last-none e = say-yes (λ b l q. sym i ∙ e)
 
@@ -35,6 +35,6 @@ module _ (M : ℕ) (w : List ℕ) (a t : ℕ) (i : t ≡ cellAt M w a 3) where
   unfolding Differ
   last-next b u v l j n = upto-more 0 a b (Differ M w a) v l (λ q. absurd (n (j ∙ sym q ∙ sym i)))
 
-  pub last-no : (b u : ℕ) → (t ≡ N → ⊥) → b < a → u ≡ cellAt M w b 3 → u ≡ t → Says false (Below a (Differ M w a))
+  pub last-no : (b u : ℕ) → (t ≡ N → ⊥) → b < a → u ≡ cellAt M w b 3 → u ≡ t → Decides false (Below a (Differ M w a))
   unfolding Below Differ
   last-no b u n l j e = say-no (λ f. n (i ∙ f b l (sym i ∙ sym e ∙ j)))

@@ -13,11 +13,11 @@ use Rattle.model.specs.Passes.{Absent}
 use Rattle.model.specs.Arena.{toColumn, farColumn}
 use Rattle.model.proofs.Tests.{hit, miss, test}
 use Rattle.arena_check.specs.declared.Dims.{Dims}
-use Rattle.arena.specs.Says.{Says}
+use Rattle.arena.specs.Decides.{Decides}
 use Rattle.arena_check.specs.Below.{Below}
 use Rattle.arena_check.specs.Free.{AbsentFrom}
 use Rattle.arena_check.specs.Walked.{Spans, Meets, Closes, Owners, filled}
-use Rattle.arena.proofs.Saying.{yes, no, say-yes, say-no}
+use Rattle.arena.proofs.Deciding.{yes, no, say-yes, say-no}
 
 -- P of each level from h up to l
 pub record Upto (h M l : ℕ) (P : ℕ → Type 0) : Type 0 where
@@ -39,14 +39,14 @@ upto-more h M l P u m p = record {
 }
 
 module _ (n : ℕ) (P : ℕ → Type 0) where
-  pub below-next : (k : ℕ) (b : Bool) → Upto 0 n k P → k < n → Says b (P k) → b ≡ true → Upto 0 n (k + 1) P
+  pub below-next : (k : ℕ) (b : Bool) → Upto 0 n k P → k < n → Decides b (P k) → b ≡ true → Upto 0 n (k + 1) P
   below-next k b u l h e = upto-more 0 n k P u l (yes h e)
 
-  pub below-no : (k : ℕ) (b : Bool) → k < n → Says b (P k) → b ≡ false → Says false (Below n P)
+  pub below-no : (k : ℕ) (b : Bool) → k < n → Decides b (P k) → b ≡ false → Decides false (Below n P)
   unfolding Below
   below-no k b l h e = say-no (λ f. no h e (f k l))
 
-  pub below-all : (k : ℕ) → Upto 0 n k P → n ≤ k → Says true (Below n P)
+  pub below-all : (k : ℕ) → Upto 0 n k P → n ≤ k → Decides true (Below n P)
   unfolding Below
   below-all k u l = say-yes (λ i j. u .right i (omega arith) (omega arith))
 
@@ -56,15 +56,15 @@ module _ (M : ℕ) (w : List ℕ) (o : ℕ → ℕ) (h : ℕ) where
       → Upto h M (l + 1) (λ k. Absent M w (o k) k)
   absent-more l t f u m p q i j = upto-more h M l (λ k. Absent M w (o k) k) u m (record { to = sym p ∙ q; far = sym i ∙ j })
 
-  pub absent-no-to : (l t : ℕ) → Upto h M l (λ k. Absent M w (o k) k) → l < M → t ≡ cellAt M w (o l) (toColumn l) → (t ≡ N → ⊥) → Says false (AbsentFrom M w o h)
+  pub absent-no-to : (l t : ℕ) → Upto h M l (λ k. Absent M w (o k) k) → l < M → t ≡ cellAt M w (o l) (toColumn l) → (t ≡ N → ⊥) → Decides false (AbsentFrom M w o h)
   unfolding AbsentFrom
   absent-no-to l t u m p n = say-no (λ a. n (p ∙ a l (u .above) m .to))
 
-  pub absent-no-far : (l f : ℕ) → Upto h M l (λ k. Absent M w (o k) k) → l < M → f ≡ cellAt M w (o l) (farColumn l) → (f ≡ 0 → ⊥) → Says false (AbsentFrom M w o h)
+  pub absent-no-far : (l f : ℕ) → Upto h M l (λ k. Absent M w (o k) k) → l < M → f ≡ cellAt M w (o l) (farColumn l) → (f ≡ 0 → ⊥) → Decides false (AbsentFrom M w o h)
   unfolding AbsentFrom
   absent-no-far l f u m p n = say-no (λ a. n (p ∙ a l (u .above) m .far))
 
-  pub absent-all : (l : ℕ) → Upto h M l (λ k. Absent M w (o k) k) → M ≤ l → Says true (AbsentFrom M w o h)
+  pub absent-all : (l : ℕ) → Upto h M l (λ k. Absent M w (o k) k) → M ≤ l → Decides true (AbsentFrom M w o h)
   unfolding AbsentFrom
   absent-all l u m = say-yes (λ k p q. u .right k p (omega arith))
 
@@ -80,19 +80,19 @@ module _ (M : ℕ) (w : List ℕ) (h : ℕ) (os qs : List ℕ) (s r : ℕ) where
   close-none = upto-none 0 h Met (omega arith)
 
   pub close-more : (l t f : ℕ) (b : Bool) → Upto 0 h l Met → l < h → t ≡ cellAt M w (getD os l 0) (toColumn l) → t ≡ s
-      → f ≡ cellAt M w (getD os l 0) (farColumn l) → Says b (Spans (getD qs l 0) f r) → b ≡ true → Upto 0 h (l + 1) Met
+      → f ≡ cellAt M w (getD os l 0) (farColumn l) → Decides b (Spans (getD qs l 0) f r) → b ≡ true → Upto 0 h (l + 1) Met
   unfolding Met
   close-more l t f b u m p q i v e = upto-more 0 h l Met u m (record { to = sym p ∙ q; far = rw (← i) (yes v e) })
 
-  pub close-no-to : (l t : ℕ) → l < h → t ≡ cellAt M w (getD os l 0) (toColumn l) → (t ≡ s → ⊥) → Says false (Closes M w h os qs s r)
+  pub close-no-to : (l t : ℕ) → l < h → t ≡ cellAt M w (getD os l 0) (toColumn l) → (t ≡ s → ⊥) → Decides false (Closes M w h os qs s r)
   unfolding Closes
   close-no-to l t m p n = say-no (λ a. n (p ∙ a l m .to))
 
-  pub close-no-far : (l f : ℕ) (b : Bool) → l < h → f ≡ cellAt M w (getD os l 0) (farColumn l) → Says b (Spans (getD qs l 0) f r) → b ≡ false → Says false (Closes M w h os qs s r)
+  pub close-no-far : (l f : ℕ) (b : Bool) → l < h → f ≡ cellAt M w (getD os l 0) (farColumn l) → Decides b (Spans (getD qs l 0) f r) → b ≡ false → Decides false (Closes M w h os qs s r)
   unfolding Closes
   close-no-far l f b m p v e = say-no (λ a. no v e (rw p (a l m .far)))
 
-  pub close-all : (l : ℕ) → Upto 0 h l Met → h ≤ l → Says true (Closes M w h os qs s r)
+  pub close-all : (l : ℕ) → Upto 0 h l Met → h ≤ l → Decides true (Closes M w h os qs s r)
   unfolding Closes Met
   close-all l u m = say-yes (λ k p. u .right k (omega arith) (omega arith))
 

@@ -17,12 +17,12 @@ use Rattle.model.proofs.Columns.{nodes-are, lists-are, length-free}
 use Rattle.model.proofs.Counting.{all-slots}
 use Rattle.model.proofs.Records.{placed}
 use Rattle.model.proofs.Tests.{hit, miss, test}
-use Rattle.arena.specs.Says.{Says}
+use Rattle.arena.specs.Decides.{Decides}
 use Rattle.arena_check.specs.Below.{Below}
 use Rattle.arena_check.specs.Sizes.{dimsOf, lengths, Differ}
 use Rattle.arena_check.specs.Free.{AbsentFrom}
 use Rattle.arena_check.specs.Whole.{Whole}
-use Rattle.arena.proofs.Saying.{yes}
+use Rattle.arena.proofs.Deciding.{yes}
 use Rattle.arena_check.proofs.Formed.{run, run-chain, Form}
 use Rattle.arena_check.proofs.Freeing.{free-chained, free-form, forms-free}
 use Rattle.arena_check.proofs.Listing.{Facts, list-facts, facts-list, formed-chained, formed-low, formed-mid, forms-formed}
@@ -187,7 +187,7 @@ module _ (w : List ℕ) (p : Passes w) where
   }
 
 -- ---- the promise ----
-pub promise : (w : List ℕ) (r : Bool) → Says r (Whole w) → CheckPromise w r
+pub promise : (w : List ℕ) (r : Bool) → Decides r (Whole w) → CheckPromise w r
 promise w r h = record { sound = λ e. clauses-pass w (clauses w (yes h e)); complete = λ p. is-true r (h .complete (whole w p)) }
   where
     is-true : (b : Bool) → T b → b ≡ true

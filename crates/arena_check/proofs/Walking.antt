@@ -9,32 +9,32 @@ use native.Mathlib.Omega.{arith}
 use Rattle.model.specs.Cells.{cellAt}
 use Rattle.model.specs.Nodes.{N}
 use Rattle.arena_check.specs.declared.Dims.{Dims}
-use Rattle.arena.specs.Says.{Says}
+use Rattle.arena.specs.Decides.{Decides}
 use Rattle.arena_check.specs.Sizes.{Within, Shape}
 use Rattle.arena_check.specs.Free.{AbsentFrom}
 use Rattle.arena_check.specs.Walked.{Closes, Loose, Owners, NodeOk, Walked, WalkOk, ListOk, filled}
-use Rattle.arena.proofs.Saying.{yes, no, say-no}
+use Rattle.arena.proofs.Deciding.{yes, no, say-no}
 use Rattle.arena_check.proofs.Levels.{owners-filled}
 
 -- ---- one node ----
 module _ (w : List ℕ) (d : Dims) (s k r : ℕ) (os qs : List ℕ) where
-  pub node-no-within : (b : Bool) → Says b (Within d s) → b ≡ false → Says false (NodeOk w d s k r os qs)
+  pub node-no-within : (b : Bool) → Decides b (Within d s) → b ≡ false → Decides false (NodeOk w d s k r os qs)
   node-no-within b h e = say-no (λ f. no h e (f .within))
 
-  pub node-no-key : (v : ℕ) → v ≡ cellAt (d .levels) w s 0 → v < k → Says false (NodeOk w d s k r os qs)
+  pub node-no-key : (v : ℕ) → v ≡ cellAt (d .levels) w s 0 → v < k → Decides false (NodeOk w d s k r os qs)
   node-no-key v e l = say-no (λ f. omega (arith, f .rises))
 
-  pub node-no-height : (u v : ℕ) → u ≡ v → v ≡ cellAt (d .levels) w s 1 → d .levels < u → Says false (NodeOk w d s k r os qs)
+  pub node-no-height : (u v : ℕ) → u ≡ v → v ≡ cellAt (d .levels) w s 1 → d .levels < u → Decides false (NodeOk w d s k r os qs)
   node-no-height u v i e l = say-no (λ f. omega (arith, f .low))
 
-  pub node-no-zero : (v : ℕ) → v ≡ cellAt (d .levels) w s 3 → (v ≡ 0 → ⊥) → Says false (NodeOk w d s k r os qs)
+  pub node-no-zero : (v : ℕ) → v ≡ cellAt (d .levels) w s 3 → (v ≡ 0 → ⊥) → Decides false (NodeOk w d s k r os qs)
   node-no-zero v e n = say-no (λ f. n (e ∙ f .zero))
 
-  pub node-no-close : (h : ℕ) (b : Bool) → h ≡ cellAt (d .levels) w s 1 → Says b (Closes (d .levels) w h os qs s r) → b ≡ false → Says false (NodeOk w d s k r os qs)
+  pub node-no-close : (h : ℕ) (b : Bool) → h ≡ cellAt (d .levels) w s 1 → Decides b (Closes (d .levels) w h os qs s r) → b ≡ false → Decides false (NodeOk w d s k r os qs)
   node-no-close h b i v e = say-no (λ f. no v e (rw i (f .closes)))
 
-  pub node-ok : (h x z : ℕ) (b c y : Bool) → Says b (Within d s) → b ≡ true → h ≡ cellAt (d .levels) w s 1 → x ≡ cellAt (d .levels) w s 0 → k ≤ x → h ≤ d .levels
-      → z ≡ cellAt (d .levels) w s 3 → z ≡ 0 → Says c (Closes (d .levels) w h os qs s r) → c ≡ true → Says y (AbsentFrom (d .levels) w (λ _. s) h) → Says y (NodeOk w d s k r os qs)
+  pub node-ok : (h x z : ℕ) (b c y : Bool) → Decides b (Within d s) → b ≡ true → h ≡ cellAt (d .levels) w s 1 → x ≡ cellAt (d .levels) w s 0 → k ≤ x → h ≤ d .levels
+      → z ≡ cellAt (d .levels) w s 3 → z ≡ 0 → Decides c (Closes (d .levels) w h os qs s r) → c ≡ true → Decides y (AbsentFrom (d .levels) w (λ _. s) h) → Decides y (NodeOk w d s k r os qs)
   node-ok h x z b c y i i′ p q q′ l n n′ v v′ a = record {
     sound = λ t. record {
       within = yes i i′;
@@ -47,10 +47,10 @@ module _ (w : List ℕ) (d : Dims) (s k r : ℕ) (os qs : List ℕ) where
     complete = λ f. a .complete (rw p (f .absent));
   }
 
-pub node-below : (w : List ℕ) (d : Dims) (s k r : ℕ) (os qs : List ℕ) (b : Bool) → Says b (NodeOk w d s k r os qs) → b ≡ true → s < d .lists + d .room
+pub node-below : (w : List ℕ) (d : Dims) (s k r : ℕ) (os qs : List ℕ) (b : Bool) → Decides b (NodeOk w d s k r os qs) → b ≡ true → s < d .lists + d .room
 node-below w d s k r os qs b h e = yes h e .within .below
 
-pub node-height : (w : List ℕ) (d : Dims) → Shape w d → (s k r : ℕ) (os qs : List ℕ) (b : Bool) (h : ℕ) → h ≡ cellAt (d .levels) w s 1 → Says b (NodeOk w d s k r os qs) → b ≡ true → h ≤ 16
+pub node-height : (w : List ℕ) (d : Dims) → Shape w d → (s k r : ℕ) (os qs : List ℕ) (b : Bool) (h : ℕ) → h ≡ cellAt (d .levels) w s 1 → Decides b (NodeOk w d s k r os qs) → b ≡ true → h ≤ 16
 node-height w d v s k r os qs b h i o e = omega (arith, v .ranges .levels-most, yes o e .low)
 
 -- ---- the walk ----
@@ -96,7 +96,7 @@ module _ (w : List ℕ) (d : Dims) (v : Shape w d) (a : ℕ) where
     from = λ f. f;
   })
 
-  pub walk-next : (n s k z r : ℕ) (os qs os′ qs′ : List ℕ) (b : Bool) (h k′ s′ : ℕ) → WalkAt w d a n s k z r os qs → 0 < n → Says b (NodeOk w d s k (r + 1) os qs) → b ≡ true
+  pub walk-next : (n s k z r : ℕ) (os qs os′ qs′ : List ℕ) (b : Bool) (h k′ s′ : ℕ) → WalkAt w d a n s k z r os qs → 0 < n → Decides b (NodeOk w d s k (r + 1) os qs) → b ≡ true
       → h ≡ cellAt (d .levels) w s 1 → os′ ≡ filled h s os → qs′ ≡ filled h (r + 1) qs → k′ ≡ cellAt (d .levels) w s 0 → s′ ≡ cellAt (d .levels) w s 2 → WalkAt w d a (n - 1) s′ k′ s (r + 1) os′ qs′
   walk-next n s k z r os qs os′ qs′ b h k′ s′ t l o e i g g′ x y = rw (x, y) (record {
     few = omega (arith, t .few);
@@ -105,25 +105,25 @@ module _ (w : List ℕ) (d : Dims) (v : Shape w d) (a : ℕ) where
     from = λ f. t .from (back w d (cellAt (d .levels) w a 3) n s k z r os qs l (yes o e) (rw (g, g′, i) at f));
   })
 
-  pub walk-no-node : (n s k z r : ℕ) (os qs : List ℕ) (b : Bool) → WalkAt w d a n s k z r os qs → 0 < n → Says b (NodeOk w d s k (r + 1) os qs) → b ≡ false → Says false (WalkOk w d a)
+  pub walk-no-node : (n s k z r : ℕ) (os qs : List ℕ) (b : Bool) → WalkAt w d a n s k z r os qs → 0 < n → Decides b (NodeOk w d s k (r + 1) os qs) → b ≡ false → Decides false (WalkOk w d a)
   walk-no-node n s k z r os qs b t l o e = say-no (λ f. no o e (step w d (cellAt (d .levels) w a 3) n s k z r os qs l (t .to f) .0))
 
-  pub walk-no-end : (n s k z r : ℕ) (os qs : List ℕ) → WalkAt w d a n s k z r os qs → n ≤ 0 → (s ≡ N → ⊥) → Says false (WalkOk w d a)
+  pub walk-no-end : (n s k z r : ℕ) (os qs : List ℕ) → WalkAt w d a n s k z r os qs → n ≤ 0 → (s ≡ N → ⊥) → Decides false (WalkOk w d a)
   walk-no-end n s k z r os qs t l o = say-no (λ f. o (ends w d (cellAt (d .levels) w a 3) n s k z r os qs l (t .to f) .0))
 
-  pub walk-no-last : (n s k z r e : ℕ) (os qs : List ℕ) → WalkAt w d a n s k z r os qs → n ≤ 0 → e ≡ cellAt (d .levels) w a 3 → (z ≡ e → ⊥) → Says false (WalkOk w d a)
+  pub walk-no-last : (n s k z r e : ℕ) (os qs : List ℕ) → WalkAt w d a n s k z r os qs → n ≤ 0 → e ≡ cellAt (d .levels) w a 3 → (z ≡ e → ⊥) → Decides false (WalkOk w d a)
   walk-no-last n s k z r e os qs t l i o = say-no (λ f. o (ends w d (cellAt (d .levels) w a 3) n s k z r os qs l (t .to f) .1 ∙ sym i))
 
-  pub walk-done : (n s k z r e : ℕ) (os qs : List ℕ) (y : Bool) → WalkAt w d a n s k z r os qs → n ≤ 0 → e ≡ cellAt (d .levels) w a 3 → s ≡ N → z ≡ e → Says y (Loose (d .levels) w os)
-      → Says y (WalkOk w d a)
+  pub walk-done : (n s k z r e : ℕ) (os qs : List ℕ) (y : Bool) → WalkAt w d a n s k z r os qs → n ≤ 0 → e ≡ cellAt (d .levels) w a 3 → s ≡ N → z ≡ e → Decides y (Loose (d .levels) w os)
+      → Decides y (WalkOk w d a)
   walk-done n s k z r e os qs y t l i j m o = record {
     sound = λ u. t .from (ended w d (cellAt (d .levels) w a 3) n s k z r os qs l j (m ∙ i) (o .sound u));
     complete = λ f. o .complete (ends w d (cellAt (d .levels) w a 3) n s k z r os qs l (t .to f) .2);
   }
 
   -- ---- the list ----
-  pub list-no-height : (h : ℕ) → h ≡ cellAt (d .levels) w a 1 → (h ≡ d .levels → ⊥) → Says false (ListOk w d a)
+  pub list-no-height : (h : ℕ) → h ≡ cellAt (d .levels) w a 1 → (h ≡ d .levels → ⊥) → Decides false (ListOk w d a)
   list-no-height h i n = say-no (λ f. n (i ∙ f .height))
 
-  pub list-walk : (h : ℕ) (y : Bool) → h ≡ cellAt (d .levels) w a 1 → h ≡ d .levels → Says y (WalkOk w d a) → Says y (ListOk w d a)
+  pub list-walk : (h : ℕ) (y : Bool) → h ≡ cellAt (d .levels) w a 1 → h ≡ d .levels → Decides y (WalkOk w d a) → Decides y (ListOk w d a)
   list-walk h y i j o = record { sound = λ t. record { height = sym i ∙ j; walk = o .sound t }; complete = λ f. o .complete (f .walk) }

@@ -3,7 +3,7 @@ ghost use mathlib.Core.Path.{_≡_};
 ghost use Prim.Native.Nat.{_+_};
 ghost use lib.ListN.{getD};
 ghost use Rattle.model.specs.Arena.{freeWord};
-ghost use Rattle.arena.specs.Says.{Says};
+ghost use Rattle.arena.specs.Decides.{Decides};
 ghost use Rattle.arena_check.specs.Sizes.{dimsOf, Shape, Headed, lengths};
 use super::Dims;
 use super::records::word;
@@ -11,7 +11,7 @@ use arena::Slot;
 
 // Whether the words have the header of an arena of their length.
 pub fn header_ok(w: &[u32]) -> bool
-    ensures { λ r. ⌜ Says r (Headed (now (w .entry))) ⌝ }
+    ensures { λ r. ⌜ Decides r (Headed (now (w .entry))) ⌝ }
 {
     if w.len() < arena::HEADER {
         return false;

@@ -3,7 +3,7 @@ ghost use mathlib.Core.Path.{_≡_};
 ghost use Prim.Native.Nat.{_+_, _<_};
 ghost use lib.ListN.{getD};
 ghost use Rattle.model.specs.Arena.{freeWord};
-ghost use Rattle.arena.specs.Says.{Says};
+ghost use Rattle.arena.specs.Decides.{Decides};
 ghost use Rattle.arena_check.specs.Below.{Below};
 ghost use Rattle.arena_check.specs.Sizes.{Shape, lengths, Differ};
 ghost use Rattle.arena_check.specs.Walked.{ListOk};
@@ -17,7 +17,7 @@ use arena::Slot;
 pub fn lists_ok(w: &[u32], d: Dims) -> bool
     requires { ⌜ Shape (now w) d ⌝ }
     requires { ⌜ getD (now w) freeWord 0 + lengths (d .levels) (now w) (d .lists) ≡ d .room ⌝ }
-    ensures { λ r. ⌜ Says r (Below (d .lists) (ListOk (now (w .entry)) d)) ⌝ }
+    ensures { λ r. ⌜ Decides r (Below (d .lists) (ListOk (now (w .entry)) d)) ⌝ }
 {
     let mut a: u32 = 0;
     while a < d.lists {
@@ -34,7 +34,7 @@ pub fn lists_ok(w: &[u32], d: Dims) -> bool
 fn last_apart(w: &[u32], d: Dims, a: Slot) -> bool
     requires { ⌜ Shape (now w) d ⌝ }
     requires { ⌜ a .0 < d .lists ⌝ }
-    ensures { λ r. ⌜ Says r (Below (a .0) (Differ (d .levels) (now (w .entry)) (a .0))) ⌝ }
+    ensures { λ r. ⌜ Decides r (Below (a .0) (Differ (d .levels) (now (w .entry)) (a .0))) ⌝ }
 {
     let head = a.0;
     let last = word(w, d, Slot(head), arena::LAST);
@@ -54,7 +54,7 @@ fn last_apart(w: &[u32], d: Dims, a: Slot) -> bool
 // Whether no two lists end in one slot.
 pub fn lasts_apart(w: &[u32], d: Dims) -> bool
     requires { ⌜ Shape (now w) d ⌝ }
-    ensures { λ r. ⌜ Says r (Below (d .lists) (λ a. Below a (Differ (d .levels) (now (w .entry)) a))) ⌝ }
+    ensures { λ r. ⌜ Decides r (Below (d .lists) (λ a. Below a (Differ (d .levels) (now (w .entry)) a))) ⌝ }
 {
     let mut a: u32 = 0;
     while a < d.lists {

@@ -1,7 +1,7 @@
 // The check of document 01: whether any words are an arena that passes. It goes once over the records, by the chains that they
 // make, and needs no memory but locals: docs/CHECK.md says how.
 ghost use Rattle.model.specs.Calls.{CheckPromise};
-ghost use Rattle.arena.specs.Says.{Says};
+ghost use Rattle.arena.specs.Decides.{Decides};
 ghost use Rattle.arena_check.specs.Whole.{Whole};
 
 mod header;
@@ -20,7 +20,7 @@ const NONE: u32 = 4294967295;
 
 // Whether the words are whole, in the order in which it is cheap to ask.
 fn whole(w: &[u32]) -> bool
-    ensures { λ r. ⌜ Says r (Whole (now (w .entry))) ⌝ }
+    ensures { λ r. ⌜ Decides r (Whole (now (w .entry))) ⌝ }
 {
     if header::header_ok(w) {} else {
         return false;

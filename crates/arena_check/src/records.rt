@@ -4,7 +4,7 @@ ghost use Prim.Native.Nat.{_+_, _≤_, _<_};
 ghost use lib.ListN.{getD};
 ghost use Rattle.model.specs.Cells.{cellAt};
 ghost use Rattle.model.specs.Arena.{width, firstFreeWord, freeWord};
-ghost use Rattle.arena.specs.Says.{Says};
+ghost use Rattle.arena.specs.Decides.{Decides};
 ghost use Rattle.arena_check.specs.Sizes.{Shape, Within};
 ghost use Rattle.arena_check.specs.Free.{AbsentFrom, FreeNode, FreeFrom};
 use super::Dims;
@@ -24,7 +24,7 @@ pub fn word(w: &[u32], d: Dims, s: Slot, c: usize) -> u32
 // Whether s is a node's slot.
 pub fn within(d: Dims, s: Slot) -> bool
     requires { ⌜ (d .lists ≤ 16) × (d .room ≤ 65535) ⌝ }
-    ensures { λ r. ⌜ Says r (Within d (s .0)) ⌝ }
+    ensures { λ r. ⌜ Decides r (Within d (s .0)) ⌝ }
 {
     if s.0 < d.lists {
         return false;
@@ -40,7 +40,7 @@ pub fn absent_from(w: &[u32], d: Dims, s: Slot, h: usize) -> bool
     requires { ⌜ Shape (now w) d ⌝ }
     requires { ⌜ s .0 < d .lists + d .room ⌝ }
     requires { ⌜ h ≤ d .levels ⌝ }
-    ensures { λ r. ⌜ Says r (AbsentFrom (d .levels) (now (w .entry)) (λ _. s .0) h) ⌝ }
+    ensures { λ r. ⌜ Decides r (AbsentFrom (d .levels) (now (w .entry)) (λ _. s .0) h) ⌝ }
 {
     let slot = s.0;
     let mut l = h;
@@ -59,7 +59,7 @@ pub fn absent_from(w: &[u32], d: Dims, s: Slot, h: usize) -> bool
 // Whether slot s has the form of a free node.
 fn free_node(w: &[u32], d: Dims, s: Slot) -> bool
     requires { ⌜ Shape (now w) d ⌝ }
-    ensures { λ r. ⌜ Says r (FreeNode (now (w .entry)) d (s .0)) ⌝ }
+    ensures { λ r. ⌜ Decides r (FreeNode (now (w .entry)) d (s .0)) ⌝ }
 {
     if within(d, s) {} else {
         return false;
@@ -79,7 +79,7 @@ fn free_node(w: &[u32], d: Dims, s: Slot) -> bool
 // Whether the free chain is right.
 pub fn free_ok(w: &[u32], d: Dims) -> bool
     requires { ⌜ Shape (now w) d ⌝ }
-    ensures { λ r. ⌜ Says r (FreeFrom (now (w .entry)) d (getD (now (w .entry)) freeWord 0) (getD (now (w .entry)) firstFreeWord 0)) ⌝ }
+    ensures { λ r. ⌜ Decides r (FreeFrom (now (w .entry)) d (getD (now (w .entry)) freeWord 0) (getD (now (w .entry)) firstFreeWord 0)) ⌝ }
 {
     let mut left = w[arena::FREE_WORD];
     let mut at = w[arena::FIRST_FREE_WORD];

@@ -4,7 +4,7 @@ ghost use mathlib.Core.Path.{_≡_};
 ghost use Prim.Native.Nat.{_≤_, _<_};
 ghost use Rattle.model.specs.Cells.{cellAt};
 ghost use Rattle.model.specs.Arena.{countColumn};
-ghost use Rattle.arena.specs.Says.{Says};
+ghost use Rattle.arena.specs.Decides.{Decides};
 ghost use Rattle.arena_check.specs.Sizes.{Shape};
 ghost use Rattle.arena_check.specs.Walked.{Spans, Closes, Loose, Owners, NodeOk, WalkOk, ListOk, filled};
 use super::Dims;
@@ -17,7 +17,7 @@ use arena::Slot;
 
 // Whether a link of distance d goes from one rank to another. The sum of two words may pass 32 bits.
 fn spans(from: Rank, d: u32, to: Rank) -> bool
-    ensures { λ r. ⌜ Says r (Spans (from .0) d (to .0)) ⌝ }
+    ensures { λ r. ⌜ Decides r (Spans (from .0) d (to .0)) ⌝ }
 {
     let reached = (from.0 as u64) + (d as u64);
     let wanted = to.0 as u64;
@@ -40,7 +40,7 @@ fn closes(
     requires { ⌜ Shape (now w) d ⌝ }
     requires { ⌜ Owners d (now slots) ⌝ }
     requires { ⌜ h ≤ d .levels ⌝ }
-    ensures { λ y. ⌜ Says y (Closes (d .levels) (now (w .entry)) h (now (slots .entry)) (now (ranks .entry)) (s .0) (r .0)) ⌝ }
+    ensures { λ y. ⌜ Decides y (Closes (d .levels) (now (w .entry)) h (now (slots .entry)) (now (ranks .entry)) (s .0) (r .0)) ⌝ }
 {
     let slot = s.0;
     let rank = r.0;
@@ -78,7 +78,7 @@ fn fill(xs: &mut [u32; 16], h: usize, v: u32)
 fn loose(w: &[u32], d: Dims, slots: &[u32; 16]) -> bool
     requires { ⌜ Shape (now w) d ⌝ }
     requires { ⌜ Owners d (now slots) ⌝ }
-    ensures { λ y. ⌜ Says y (Loose (d .levels) (now (w .entry)) (now (slots .entry))) ⌝ }
+    ensures { λ y. ⌜ Decides y (Loose (d .levels) (now (w .entry)) (now (slots .entry))) ⌝ }
 {
     let mut l: usize = 0;
     while l < d.levels {
@@ -108,7 +108,7 @@ fn node_ok(
 ) -> bool
     requires { ⌜ Shape (now w) d ⌝ }
     requires { ⌜ Owners d (now slots) ⌝ }
-    ensures { λ y. ⌜ Says y (NodeOk (now (w .entry)) d (s .0) k (r .0) (now (slots .entry)) (now (ranks .entry))) ⌝ }
+    ensures { λ y. ⌜ Decides y (NodeOk (now (w .entry)) d (s .0) k (r .0) (now (slots .entry)) (now (ranks .entry))) ⌝ }
 {
     if within(d, s) {} else {
         return false;
@@ -135,7 +135,7 @@ fn walk_ok(w: &[u32], d: Dims, a: Slot) -> bool
     requires { ⌜ Shape (now w) d ⌝ }
     requires { ⌜ a .0 < d .lists ⌝ }
     requires { ⌜ cellAt (d .levels) (now w) (a .0) countColumn ≤ d .room ⌝ }
-    ensures { λ y. ⌜ Says y (WalkOk (now (w .entry)) d (a .0)) ⌝ }
+    ensures { λ y. ⌜ Decides y (WalkOk (now (w .entry)) d (a .0)) ⌝ }
 {
     let head = a.0;
     let named = word(w, d, Slot(head), arena::LAST);
@@ -174,7 +174,7 @@ pub fn list_ok(w: &[u32], d: Dims, a: Slot) -> bool
     requires { ⌜ Shape (now w) d ⌝ }
     requires { ⌜ a .0 < d .lists ⌝ }
     requires { ⌜ cellAt (d .levels) (now w) (a .0) countColumn ≤ d .room ⌝ }
-    ensures { λ y. ⌜ Says y (ListOk (now (w .entry)) d (a .0)) ⌝ }
+    ensures { λ y. ⌜ Decides y (ListOk (now (w .entry)) d (a .0)) ⌝ }
 {
     let h = arena::wide(word(w, d, a, arena::HEIGHT));
     if h != d.levels {

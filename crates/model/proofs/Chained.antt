@@ -2,9 +2,11 @@
 use Prim.Native.Nat.{ℕ, zero, suc, _+_, _*_, _≤_, _<_}
 use mathlib.Core.Path.{_≡_, refl, sym, ap, _∙_, subst}
 use mathlib.Core.List.{List, [], _∷_, _++_}
-use lib.ListN.{length, getD, length-append}
+use lib.ListN.{length, getD, length-append, List·getD-append}
+use lib.Seq.{getD-append-add}
 use native.Mathlib.Omega.{arith}
-use Rattle.model.specs.Arena.{firstSlot, firstFree, absent}
+use Rattle.model.specs.Arena.{firstSlot, firstFree, absentLinks}
+use Rattle.model.specs.Links.{linkWords, absentLink}
 use Rattle.model.specs.Cells.{cellAt}
 use Rattle.model.specs.Nodes.{Node, node, N}
 use Rattle.model.specs.Passes.{chain, freeChain, times, timesAll, timesFree, after, Chained, Each}
@@ -102,7 +104,9 @@ pub each-all : (P : List Node → Type 0) (xss : List (List Node)) → ((a : ℕ
 each-all P [] h = tt
 each-all P (xs ∷ xss) h = (h 0 (omega arith), each-all P xss (λ a l. h (suc a) (omega arith)))
 
-pub absent-at : (n l : ℕ) → l < n → (getD (absent n) (2 * l) 0 ≡ N) × (getD (absent n) (suc (2 * l)) 0 ≡ 0)
-absent-at zero l p = absurd (omega arith)
-absent-at (suc n) zero p = (refl, refl)
-absent-at (suc n) (suc l) p = let e : 2 * suc l ≡ suc (suc (2 * l)) = omega arith in rw e (absent-at n l (omega arith))
+pub absent-at : (n l j : ℕ) → l < n → j < linkWords → getD (absentLinks n) (linkWords * l + j) 0 ≡ getD absentLink j 0
+absent-at zero l j p q = absurd (omega arith)
+absent-at (suc n) zero j p q = let e : linkWords * 0 + j ≡ j = omega arith in rw e (List·getD-append absentLink (absentLinks n) 0 j q)
+absent-at (suc n) (suc l) j p q =
+    let e : linkWords * suc l + j ≡ linkWords + (linkWords * l + j) = omega arith in
+    rw e (getD-append-add absentLink (absentLinks n) (linkWords * l + j) 0 ∙ absent-at n l j (omega arith) q)

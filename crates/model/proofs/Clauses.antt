@@ -8,17 +8,24 @@ use lib.ListN.{length, getD}
 use lib.Seq.{append-snoc}
 use native.Mathlib.Omega.{arith}
 use borrow.Author.Tests.{le-leb, lt-leb}
-use Rattle.model.specs.Arena.{width, toColumn, farColumn, State, headWords, nodeWords, freeWords, firstSlot, firstFree, encode}
-use Rattle.model.specs.Cells.{recordAt, cellAt}
+use Rattle.model.specs.Arena.{width, toColumn, State, headWords, nodeWords, freeWords, firstSlot, firstFree, encode}
+use Rattle.model.specs.Cells.{recordAt, cellAt, linkAt}
+use Rattle.model.specs.Links.{linkWords, linkOf, absentLink}
 use Rattle.model.specs.Nodes.{Node, node, Sorted, Low}
 use Rattle.model.specs.Passes.{decode, nodes, times, timesAll, timesFree, Sound, Passes, Chained, Clauses}
 use Rattle.model.proofs.Builds.{Reads-as, words-are}
 use Rattle.model.proofs.Chained.{stands, stands-free, chain-out, free-out, none-all, each-all, absent-at, chained-none, chained-more}
-use Rattle.model.proofs.Columns.{cell-record, length-encode, columns, record-is, front-words, first-chain, first-free, length-chain, length-free, nodes-are, lists-are}
+use Rattle.model.proofs.Columns.{cell-record, length-encode, every-column, link-field, link-is, record-is, front-words, first-chain, first-free, length-chain, length-free, nodes-are, lists-are}
 use Rattle.model.proofs.Keeps.{each-get}
-use Rattle.model.proofs.Owners.{to, far, says-to, says-far}
+use Rattle.model.proofs.Owners.{link-column}
 use Rattle.model.proofs.Records.{length-links, length-absent, rec-encode, head-words, record-node, record-free, free-slot, placed, times-mid, timesAll-ge}
 use Rattle.model.proofs.Tests.{hit, miss, test}
+
+-- a free node's links are absent
+free-field : (M : ℕ) (fs : List ℕ) (l j : ℕ) → l < M → j < linkWords → getD (freeWords M fs) (toColumn l + j) 0 ≡ getD absentLink j 0
+free-field M fs l j k q =
+    let e : toColumn l + j ≡ suc (suc (suc (suc (linkWords * l + j)))) = omega arith in
+    ap (λ (c : ℕ). getD (freeWords M fs) c 0) e ∙ absent-at M l j k q
 
 -- ---- from the clauses ----
 module _ (w : List ℕ) (c : Clauses w) where
@@ -31,6 +38,9 @@ module _ (w : List ℕ) (c : Clauses w) where
   C : ℕ
   C = getD w 4 0
 
+  read-field : (s l j : ℕ) → j < linkWords → {k : List ℕ} → linkAt M w s l ≡ k → cellAt M w s (toColumn l + j) ≡ getD k j 0
+  read-field s l j q e = sym (link-field M w s l j q) ∙ ap (λ (k : List ℕ). getD k j 0) e
+
   -- the columns of a head, a node in a list and a free node
   head-columns : (a : ℕ) → a < L → (k : ℕ) → k < width M → cellAt M w a k ≡ getD (headWords M (nodes w a)) k 0
   unfolding L M C
@@ -38,28 +48,23 @@ module _ (w : List ℕ) (c : Clauses w) where
       let xs = nodes w a in
       let e = nodes-are w a l in
       let h = c .chains a l in
-      columns (λ k. cellAt M w a k ≡ getD (headWords M xs) k 0) M
+      every-column (λ k. cellAt M w a k ≡ getD (headWords M xs) k 0) M
       (sym (ap length e ∙ length-chain M w (cellAt M w a 0) (cellAt M w a 2)))
       (c .head-height a l)
       (sym (ap firstSlot e ∙ first-chain M w (cellAt M w a 0) (cellAt M w a 2) (chained-none L M C w (cellAt M w a 0) (cellAt M w a 2) h)))
       (c .lasts a l)
-      (λ i k.
+      (λ i j k q.
       let t : leb (suc i) M ≡ true = le-leb (suc i) M k in
-      let g = c .head-links a l i k in
-      (g .to ∙ sym (says-to M i k .head xs ∙ (rw t refl)), g .far ∙ sym (says-far M i k .head xs ∙ (rw t refl))))
+      read-field a i j q (c .head-links a l i k .link) ∙ sym (link-column M i j k q .head xs ∙ (rw t refl)))
 
   node-columns : (a : ℕ) (aa : List Node) (y : Node) (ys : List Node) → a < L → nodes w a ≡ aa ++ y ∷ ys → (k : ℕ) → k < width M → cellAt M w (y .slot) k ≡ getD (nodeWords M y ys) k 0
   unfolding L M C
   node-columns a aa y ys l e =
       let v = stands L M C w (cellAt M w a 0) (cellAt M w a 2) aa y ys (c .chains a l) (sym (nodes-are w a l) ∙ e) in
-      columns (λ k. cellAt M w (y .slot) k ≡ getD (nodeWords M y ys) k 0) M (v .key) (v .height) (v .next) (c .node-zero a aa y ys l e)
-      (λ i k. elim (test (suc i) (y .height)) [
-        | hit t p ↦
-            let g = c .node-links a aa y ys l e i k p in
-            (g .to ∙ sym (says-to M i k .node y ys ∙ (rw t refl)), g .far ∙ sym (says-far M i k .node y ys ∙ (rw t refl)))
-        | miss t p ↦
-            let g = c .node-absent a aa y ys l e i k (omega arith) in
-            (g .to ∙ sym (says-to M i k .node y ys ∙ (rw t refl)), g .far ∙ sym (says-far M i k .node y ys ∙ (rw t refl)))
+      every-column (λ k. cellAt M w (y .slot) k ≡ getD (nodeWords M y ys) k 0) M (v .key) (v .height) (v .next) (c .node-zero a aa y ys l e)
+      (λ i j k q. elim (test (suc i) (y .height)) [
+        | hit t p ↦ read-field (y .slot) i j q (c .node-links a aa y ys l e i k p .link) ∙ sym (link-column M i j k q .node y ys ∙ (rw t refl))
+        | miss t p ↦ read-field (y .slot) i j q (c .node-absent a aa y ys l e i k (omega arith) .link) ∙ sym (link-column M i j k q .node y ys ∙ (rw t refl))
       ])
 
   free-columns : (gs : List ℕ) (f : ℕ) (fs : List ℕ) → decode w .free ≡ gs ++ f ∷ fs → (k : ℕ) → k < width M → cellAt M w f k ≡ getD (freeWords M fs) k 0
@@ -67,14 +72,8 @@ module _ (w : List ℕ) (c : Clauses w) where
   free-columns gs f fs e =
       let v = stands-free L M C w (getD w 6 0) (getD w 5 0) gs f fs (c .frees) e in
       let p = c .free-form gs f fs e in
-      columns (λ k. cellAt M w f k ≡ getD (freeWords M fs) k 0) M (p .0) (p .1) (v .next) (p .2)
-      (λ i k.
-      let g = c .free-links gs f fs e i k in
-      let four : toColumn i ≡ suc (suc (suc (suc (2 * i)))) = omega arith in
-      let five : farColumn i ≡ suc (suc (suc (suc (suc (2 * i))))) = omega arith in (
-        g .to ∙ sym (ap (λ (j : ℕ). getD (freeWords M fs) j 0) four ∙ absent-at M i k .0),
-        g .far ∙ sym (ap (λ (j : ℕ). getD (freeWords M fs) j 0) five ∙ absent-at M i k .1),
-      ))
+      every-column (λ k. cellAt M w f k ≡ getD (freeWords M fs) k 0) M (p .0) (p .1) (v .next) (p .2)
+      (λ i j k q. read-field f i j q (c .free-links gs f fs e i k .link) ∙ sym (free-field M fs i j k q))
 
   reads : Reads-as (decode w) w
   unfolding L M C
@@ -196,29 +195,24 @@ module _ (w : List ℕ) (p : Passes w) where
     node-zero = λ a aa y ys l e. node-cell a aa y ys l e 3 (omega arith);
     free-form = λ gs f fs e. (free-cell gs f fs e 0 (omega arith), free-cell gs f fs e 1 (omega arith), free-cell gs f fs e 3 (omega arith));
     free-links = λ gs f fs e l k.
-        let four : toColumn l ≡ suc (suc (suc (suc (2 * l)))) = omega arith in
-        let five : farColumn l ≡ suc (suc (suc (suc (suc (2 * l))))) = omega arith in
-        record {
-          to = free-cell gs f fs e (toColumn l) (omega arith) ∙ ap (λ (j : ℕ). getD (freeWords (S .levels) fs) j 0) four ∙ absent-at (S .levels) l k .0;
-          far = free-cell gs f fs e (farColumn l) (omega arith) ∙ ap (λ (j : ℕ). getD (freeWords (S .levels) fs) j 0) five ∙ absent-at (S .levels) l k .1;
-        };
+        record { link = link-is (S .levels) w f l absentLink refl (λ j q. free-cell gs f fs e (toColumn l + j) (omega arith) ∙ free-field (S .levels) fs l j k q) };
     head-links = λ a i l k.
         let t : leb (suc l) (S .levels) ≡ true = le-leb (suc l) (S .levels) k in
         record {
-          to = head-cell a i (toColumn l) (omega arith) ∙ says-to (S .levels) l k .head (nodes w a) ∙ (rw t refl);
-          far = head-cell a i (farColumn l) (omega arith) ∙ says-far (S .levels) l k .head (nodes w a) ∙ (rw t refl);
+          link = link-is (S .levels) w a l (linkOf (suc l) (nodes w a)) refl
+              (λ j q. head-cell a i (toColumn l + j) (omega arith) ∙ link-column (S .levels) l j k q .head (nodes w a) ∙ (rw t refl));
         };
     node-links = λ a aa y ys i e l k h.
         let t : leb (suc l) (y .height) ≡ true = le-leb (suc l) (y .height) h in
         record {
-          to = node-cell a aa y ys i e (toColumn l) (omega arith) ∙ says-to (S .levels) l k .node y ys ∙ (rw t refl);
-          far = node-cell a aa y ys i e (farColumn l) (omega arith) ∙ says-far (S .levels) l k .node y ys ∙ (rw t refl);
+          link = link-is (S .levels) w (y .slot) l (linkOf (suc l) ys) refl
+              (λ j q. node-cell a aa y ys i e (toColumn l + j) (omega arith) ∙ link-column (S .levels) l j k q .node y ys ∙ (rw t refl));
         };
     node-absent = λ a aa y ys i e l k h.
         let t : leb (suc l) (y .height) ≡ false = lt-leb (suc l) (y .height) (omega arith) in
         record {
-          to = node-cell a aa y ys i e (toColumn l) (omega arith) ∙ says-to (S .levels) l k .node y ys ∙ (rw t refl);
-          far = node-cell a aa y ys i e (farColumn l) (omega arith) ∙ says-far (S .levels) l k .node y ys ∙ (rw t refl);
+          link = link-is (S .levels) w (y .slot) l absentLink refl
+              (λ j q. node-cell a aa y ys i e (toColumn l + j) (omega arith) ∙ link-column (S .levels) l j k q .node y ys ∙ (rw t refl));
         };
   }
 

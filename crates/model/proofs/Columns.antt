@@ -1,14 +1,15 @@
 -- Any words by slot and column: records from their columns, and the chains and lists that the words hold, step by step.
 -- Rests on specs/Cells and specs/Passes.
-use Prim.Native.Nat.{ℕ, zero, suc, _+_, _*_, _≤_, _<_}
+use Prim.Native.Nat.{ℕ, zero, suc, _+_, _*_, _/_, _%_, _≤_, _<_}
 use mathlib.Core.Path.{_≡_, refl, sym, ap, _∙_, subst}
 use mathlib.Core.List.{List, [], _∷_}
 use lib.ListN.{length, take, drop, getD, length-drop, length-append}
 use lib.Seq.{getD-take, getD-drop, ext-getD, length-take-le, drop-cons}
-use native.Mathlib.Nat.{mul-le-mul-right, add-zero}
+use native.Mathlib.Nat.{mul-le-mul-right, add-zero, div-add-mod'}
 use native.Mathlib.Omega.{arith}
-use Rattle.model.specs.Arena.{width, toColumn, farColumn, State, firstSlot, firstFree, recordOf, records, encode}
-use Rattle.model.specs.Cells.{recordAt, cellAt}
+use Rattle.model.specs.Arena.{width, toColumn, State, firstSlot, firstFree, recordOf, records, encode}
+use Rattle.model.specs.Cells.{recordAt, cellAt, linkAt}
+use Rattle.model.specs.Links.{linkWords}
 use Rattle.model.specs.Nodes.{node, N}
 use Rattle.model.specs.Passes.{chain, freeChain, listsFrom, decode, nodes}
 use Rattle.model.proofs.Records.{length-record}
@@ -18,23 +19,23 @@ unfolding cellAt
 cell-record M w s c l = sym (getD-take (width M) (drop (8 + s * (width M)) w) c 0 l ∙ getD-drop (8 + s * (width M)) w c 0)
 
 -- ---- a record from its columns ----
-data Half (k : ℕ) : Type 0 where
-  even : (l : ℕ) → k ≡ 2 * l → Half k
-  odd : (l : ℕ) → k ≡ suc (2 * l) → Half k
+pub every-column : (P : ℕ → Type 0) (M : ℕ) → P 0 → P 1 → P 2 → P 3 → ((l j : ℕ) → l < M → j < linkWords → P (toColumn l + j)) → (c : ℕ) → c < width M → P c
+every-column P M p q r t h zero l = p
+every-column P M p q r t h (suc zero) l = q
+every-column P M p q r t h (suc (suc zero)) l = r
+every-column P M p q r t h (suc (suc (suc zero))) l = t
+every-column P M p q r t h (suc (suc (suc (suc k)))) l =
+    let e = div-add-mod' k linkWords in
+    subst P (omega (arith, e)) (h (k / linkWords) (k % linkWords) (omega (arith, e)) (omega arith))
 
-half : (k : ℕ) → Half k
-half zero = even 0 refl
-half (suc k) = elim (half k) [ even l e ↦ odd l (omega arith) | odd l e ↦ even (suc l) (omega arith) ]
+-- the words of a link, field by field
+pub link-field : (M : ℕ) (w : List ℕ) (s l j : ℕ) → j < linkWords → getD (linkAt M w s l) j 0 ≡ cellAt M w s (toColumn l + j)
+link-field M w s l zero k = ap (cellAt M w s) (sym (add-zero (toColumn l)))
+link-field M w s l (suc zero) k = ap (cellAt M w s) (omega arith)
+link-field M w s l (suc (suc j)) k = absurd (omega arith)
 
-pub columns : (P : ℕ → Type 0) (M : ℕ) → P 0 → P 1 → P 2 → P 3 → ((l : ℕ) → l < M → P (toColumn l) × P (farColumn l)) → (c : ℕ) → c < width M → P c
-columns P M p q r t h zero l = p
-columns P M p q r t h (suc zero) l = q
-columns P M p q r t h (suc (suc zero)) l = r
-columns P M p q r t h (suc (suc (suc zero))) l = t
-columns P M p q r t h (suc (suc (suc (suc k)))) l = elim (half k) [
-  | even i e ↦ subst P (omega arith) (h i (omega arith) .0)
-  | odd i e ↦ subst P (omega arith) (h i (omega arith) .1)
-]
+pub link-is : (M : ℕ) (w : List ℕ) (s l : ℕ) (k : List ℕ) → length k ≡ linkWords → ((j : ℕ) → j < linkWords → cellAt M w s (toColumn l + j) ≡ getD k j 0) → linkAt M w s l ≡ k
+link-is M w s l k len h = ext-getD 0 (linkAt M w s l) k (sym len) (λ j q. link-field M w s l j q ∙ h j q)
 
 -- a record that lies in the words is R, where each of its columns is
 pub record-is : (M n : ℕ) (w : List ℕ) (s : ℕ) (R : List ℕ) → length w ≡ 8 + n * (width M) → s < n → length R ≡ width M

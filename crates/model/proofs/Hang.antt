@@ -11,12 +11,11 @@ use lib.Seq.{split-at, getD-at, length-take-le}
 use native.Mathlib.Omega.{arith}
 use borrow.Author.Tests.{le-leb}
 use Rattle.model.specs.Arena.{State, nodeWords, headWords, lastSlot, listOf, recordOf, slots-of}
-use Rattle.model.specs.Links.{target, distance}
+use Rattle.model.specs.Links.{distance, absentLink}
 use Rattle.model.specs.Nodes.{Node, node, N, slotAt, at}
 use Rattle.model.specs.Passes.{Sound}
 use Rattle.model.specs.Walks.{last}
-use Rattle.model.proofs.Links.{past}
-use Rattle.model.proofs.Owners.{to, far, Says, last-mid, last-distance, distance-last, near, beyond}
+use Rattle.model.proofs.Owners.{field, Column, linkFrom, last-mid, last-distance, distance-last, near, beyond}
 use Rattle.model.proofs.Precursor.{last-node}
 use Rattle.model.proofs.Records.{head-words, node-words, slot-of}
 use Rattle.model.proofs.Tests.{hit, miss, test}
@@ -38,12 +37,12 @@ module _ (a : ℕ) (A : List Node) (h : ℕ) where
   pub keep-head : a ≢ slotAt a A (last h A) → distance h A ≢ 0
   keep-head ne z = ne (sym (ap (slotAt a A) (distance-last h A z)))
 
-  module _ (Z : List Node) where
-    pub keep-to : (aa : List Node) (y : Node) (vs : List Node) → A ≡ aa ++ y ∷ vs → y .slot ≢ slotAt a A (last h A) → to h (y .height) (vs ++ Z) ≡ to h (y .height) vs
-    keep-to aa y vs e ne = elim (test h (y .height)) [ hit f p ↦ rw f (near h vs Z (keep-node aa y vs e ne p) .0) | miss f p ↦ rw f refl ]
-
-    pub keep-far : (aa : List Node) (y : Node) (vs : List Node) → A ≡ aa ++ y ∷ vs → y .slot ≢ slotAt a A (last h A) → far h (y .height) (vs ++ Z) ≡ far h (y .height) vs
-    keep-far aa y vs e ne = elim (test h (y .height)) [ hit f p ↦ rw f (near h vs Z (keep-node aa y vs e ne p) .1) | miss f p ↦ rw f refl ]
+  pub keep : (j : ℕ) (Z aa : List Node) (y : Node) (vs : List Node) → A ≡ aa ++ y ∷ vs → y .slot ≢ slotAt a A (last h A)
+      → field j h (y .height) (vs ++ Z) ≡ field j h (y .height) vs
+  keep j Z aa y vs e ne = elim (test h (y .height)) [
+    | hit f p ↦ rw f (ap (λ (k : List ℕ). getD k j 0) (near h vs Z (keep-node aa y vs e ne p)))
+    | miss f p ↦ rw f refl
+  ]
 
 -- ---- one state: what the columns say of the owners of A ----
 module _ (S : State) (v : Sound S) (a : ℕ) (la : a < length (S .lists)) (A X : List Node) (e : listOf S a ≡ A ++ X) where
@@ -61,8 +60,7 @@ module _ (S : State) (v : Sound S) (a : ℕ) (la : a < length (S .lists)) (A X :
     pub record Goes (p : ℕ) : Type 0 where
       pub known : slotAt a A p < slots-of S
       pub owner : InA a A (slotAt a A p)
-      pub reads-to : (c : ℕ) → Says (S .levels) c (to h) → getD (recordOf S (slotAt a A p)) c 0 ≡ target h X
-      pub reads-far : (c : ℕ) → Says (S .levels) c (far h) → getD (recordOf S (slotAt a A p)) c 0 ≡ past (length A - p) (distance h X)
+      pub reads : (c j : ℕ) → Column (S .levels) c (field j h) → getD (recordOf S (slotAt a A p)) c 0 ≡ getD (linkFrom (length A - p) h X) j 0
 
     goes : (p : ℕ) → last h A ≡ p → Goes p
     goes zero q =
@@ -71,8 +69,7 @@ module _ (S : State) (v : Sound S) (a : ℕ) (la : a < length (S .lists)) (A X :
         record {
           known = omega arith;
           owner = its-head refl;
-          reads-to = λ c r. rw head-of (r .head (A ++ X) ∙ (rw (le-leb h (S .levels) hm) (b .0)));
-          reads-far = λ c r. rw head-of (r .head (A ++ X) ∙ (rw (le-leb h (S .levels) hm) (b .1 ∙ ap (λ (k : ℕ). past k (distance h X)) z)));
+          reads = λ c j r. rw head-of (r .head (A ++ X) ∙ (rw (le-leb h (S .levels) hm) (ap (λ (k : List ℕ). getD k j 0) (b ∙ ap (λ (n : ℕ). linkFrom n h X) z))));
         }
     goes (suc i) q =
         let y = at A i in
@@ -86,8 +83,9 @@ module _ (S : State) (v : Sound S) (a : ℕ) (la : a < length (S .lists)) (A X :
         record {
           known = slot-of S v a (take i A) y (vs ++ X) (mid (take i A) y vs s) .1;
           owner = its-node (take i A) y vs s refl;
-          reads-to = λ c r. rw (node-of (take i A) y vs s) (r .node y (vs ++ X) ∙ (rw (le-leb h (y .height) t) (b .0)));
-          reads-far = λ c r. rw (node-of (take i A) y vs s) (r .node y (vs ++ X) ∙ (rw (le-leb h (y .height) t) (b .1 ∙ ap (λ (n : ℕ). past n (distance h X)) d)));
+          reads = λ c j r.
+              rw (node-of (take i A) y vs s)
+              (r .node y (vs ++ X) ∙ (rw (le-leb h (y .height) t) (ap (λ (k : List ℕ). getD k j 0) (b ∙ ap (λ (n : ℕ). linkFrom n h X) d))));
         }
 
     pub goes-last : Goes (last h A)
@@ -172,12 +170,9 @@ module _ {S T : State} {a : ℕ} {Out : ℕ → Type 0} {A X Y : List Node} (H :
     pub known : s < slots-of S
     pub owner : InA a A s
     pub within : r ≤ length A
-    pub old-to : (c : ℕ) → Says (S .levels) c (to h) → getD (recordOf S s) c 0 ≡ target h X
-    pub old-far : (c : ℕ) → Says (S .levels) c (far h) → getD (recordOf S s) c 0 ≡ past (length A - r) (distance h X)
-    pub new-to : (c : ℕ) → Says (S .levels) c (to h) → getD (recordOf T s) c 0 ≡ target h Y
-    pub new-far : (c : ℕ) → Says (S .levels) c (far h) → getD (recordOf T s) c 0 ≡ past (length A - r) (distance h Y)
-    pub same-to : (c : ℕ) → Says (S .levels) c (to h) → (z : ℕ) → z < slots-of S → z ≢ s → ¬ Out z → getD (recordOf T z) c 0 ≡ getD (recordOf S z) c 0
-    pub same-far : (c : ℕ) → Says (S .levels) c (far h) → (z : ℕ) → z < slots-of S → z ≢ s → ¬ Out z → getD (recordOf T z) c 0 ≡ getD (recordOf S z) c 0
+    pub old : (c j : ℕ) → Column (S .levels) c (field j h) → getD (recordOf S s) c 0 ≡ getD (linkFrom (length A - r) h X) j 0
+    pub new : (c j : ℕ) → Column (S .levels) c (field j h) → getD (recordOf T s) c 0 ≡ getD (linkFrom (length A - r) h Y) j 0
+    pub same : (c j : ℕ) → Column (S .levels) c (field j h) → (z : ℕ) → z < slots-of S → z ≢ s → ¬ Out z → getD (recordOf T z) c 0 ≡ getD (recordOf S z) c 0
 
   pub stage-is : (h : ℕ) → h ≤ S .levels → (s r : ℕ) → r ≡ last h A → s ≡ slotAt a A r → Stage h s r
   stage-is h hm s r er es =
@@ -187,12 +182,10 @@ module _ {S T : State} {a : ℕ} {Out : ℕ → Type 0} {A X Y : List Node} (H :
         known = g .known;
         owner = g .owner;
         within = last-le h A;
-        old-to = g .reads-to;
-        old-far = g .reads-far;
-        new-to = λ c q. g′ .reads-to c (subst (λ (m : ℕ). Says m c (to h)) (H .levels) q);
-        new-far = λ c q. g′ .reads-far c (subst (λ (m : ℕ). Says m c (far h)) (H .levels) q);
-        same-to = λ c q. agree c (slotAt a A (last h A)) (to h (S .levels)) (λ y ys. to h (y .height) ys) (q .head) (q .node)
-            (λ Z aa y vs. keep-to a A h Z aa y vs) (λ Z ne. ap (λ (g : ℕ). cond (leb h (S .levels)) g N) (near h A Z (keep-head a A h ne) .0));
-        same-far = λ c q. agree c (slotAt a A (last h A)) (far h (S .levels)) (λ y ys. far h (y .height) ys) (q .head) (q .node)
-            (λ Z aa y vs. keep-far a A h Z aa y vs) (λ Z ne. ap (λ (g : ℕ). cond (leb h (S .levels)) g 0) (near h A Z (keep-head a A h ne) .1));
+        old = g .reads;
+        new = λ c j q. g′ .reads c j (subst (λ (m : ℕ). Column m c (field j h)) (H .levels) q);
+        same = λ c j q.
+            agree c (slotAt a A (last h A)) (field j h (S .levels)) (λ y ys. field j h (y .height) ys) (q .head) (q .node)
+            (λ Z aa y vs. keep a A h j Z aa y vs)
+            (λ Z ne. ap (λ (k : List ℕ). getD (cond (leb h (S .levels)) k absentLink) j 0) (near h A Z (keep-head a A h ne)));
       })

@@ -12,7 +12,7 @@ use Rattle.model.specs.Nodes.{Node, node, Sorted}
 use Rattle.model.specs.Passes.{Sound, timesFree}
 use Rattle.model.proofs.Hang.{InA, its-head, its-node, Hung}
 use Rattle.model.proofs.Keeps.{sound-insert-at}
-use Rattle.model.proofs.Owners.{head, listed, freed, place}
+use Rattle.model.proofs.Owners.{head, listed, freed, kind}
 use Rattle.model.proofs.Records.{head-words, node-words, free-words, slot-of, free-slot, free-mid, times-mid, timesAll-ge}
 use Rattle.model.proofs.Splitting.{in-first, in-second, in-of}
 use Rattle.model.proofs.Tests.{same, other, same?}
@@ -45,7 +45,7 @@ module _ {Z : State} {ls ms : List (List Node)} {f : ℕ} {fs : List ℕ} {a : �
       free-words T (p .sound-T) gs s hs q ∙ sym (free-words S (p .sound-S) (g ∷ gs) s hs e)
 
   rest : (s : ℕ) → s < slots-of S → s ≢ f → InA a A s ⊎ (recordOf T s ≡ recordOf S s)
-  rest s l nf = elim (place S (p .sound-S) s l) [
+  rest s l nf = elim (kind S (p .sound-S) s l) [
     | head k ↦ elim (same? s a) [
       | same e q ↦ inl (its-head q)
       | other e q ↦ inr (head-words T s (omega (arith, p .lists)) ∙ ap (headWords (Z .levels)) (p .others s q) ∙ sym (head-words S s k))

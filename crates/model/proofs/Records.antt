@@ -7,21 +7,22 @@ use lib.Seq.{take-at, getD-at, drop-append-add, append-snoc}
 use native.Mathlib.Nat.{zero-add, add-zero, suc-add, add-suc, not-suc-le-zero, zero-mul}
 use native.Mathlib.Omega.{arith}
 use borrow.Author.Tests.{lt-ltb, le-ltb, eq-eqb}
-use Rattle.model.specs.Arena.{width, State, nodeLinks, nodeWords, headWords, freeWords, absent, firstSlot, firstFree, inList, inLists, inFree, recordOf, records, header, encode}
+use Rattle.model.specs.Arena.{width, State, nodeLinks, nodeWords, headWords, freeWords, absentLinks, firstSlot, firstFree, inList, inLists, inFree, recordOf, records, header, encode}
 use Rattle.model.specs.Cells.{recordAt}
+use Rattle.model.specs.Links.{linkWords}
 use Rattle.model.specs.Nodes.{Node}
 use Rattle.model.specs.Passes.{chain, freeChain, listsFrom, decode, times, timesAll, timesFree, Sound}
 use Rattle.model.proofs.Tests.{same, other, same?, hit, miss, test}
 
 -- every record has its length
-pub length-links : (l n ht : ℕ) (ys : List Node) → length (nodeLinks l n ht ys) ≡ 2 * n
+pub length-links : (l n ht : ℕ) (ys : List Node) → length (nodeLinks l n ht ys) ≡ linkWords * n
 length-links l zero ht ys = refl
 length-links l (suc n) ht ys = elim (test (suc l) ht) [
   | hit e p ↦ rw e (omega (arith, length-links (suc l) n ht ys))
   | miss e p ↦ rw e (omega (arith, length-links (suc l) n ht ys))
 ]
 
-pub length-absent : (n : ℕ) → length (absent n) ≡ 2 * n
+pub length-absent : (n : ℕ) → length (absentLinks n) ≡ linkWords * n
 length-absent zero = refl
 length-absent (suc n) = omega (arith, length-absent n)
 

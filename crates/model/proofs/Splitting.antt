@@ -12,7 +12,7 @@ use Rattle.model.specs.Nodes.{Node, node, N, slotAt, at}
 use Rattle.model.specs.Passes.{Sound}
 use Rattle.model.proofs.Hang.{InA, its-head, its-node, Hung}
 use Rattle.model.proofs.Keeps.{sound-split}
-use Rattle.model.proofs.Owners.{head, listed, freed, place}
+use Rattle.model.proofs.Owners.{head, listed, freed, kind}
 use Rattle.model.proofs.Records.{head-words, node-words, free-words, slot-of}
 use Rattle.model.proofs.Tests.{same, other, same?}
 
@@ -57,7 +57,7 @@ module _ {Z : State} {ls ms : List (List Node)} {a b : ℕ} {A B : List Node} (p
   T = withLists Z ms
 
   rest : (s : ℕ) → s < slots-of S → s ≢ b → InA a A s ⊎ (recordOf T s ≡ recordOf S s)
-  rest s l nb = elim (place S (p .sound-S) s l) [
+  rest s l nb = elim (kind S (p .sound-S) s l) [
     | head k ↦ elim (same? s a) [
       | same e q ↦ inl (its-head q)
       | other e q ↦ inr (head-words T s (omega (arith, p .lists)) ∙ ap (headWords (Z .levels)) (p .others s q nb) ∙ sym (head-words S s k))

@@ -5,7 +5,7 @@ use mathlib.Core.List.{List, [], _∷_, _++_}
 use lib.Dec.{ltb, eqb}
 use lib.ListN.{length, getD, set, replicate}
 use Rattle.model.specs.Nodes.{Node, N}
-use Rattle.model.specs.Links.{distance, target}
+use Rattle.model.specs.Links.{linkWords, linkOf, absentLink}
 
 -- M levels, C node slots, L lists of nodes in order, and the free chain's slots in order.
 pub record State : Type 0 where
@@ -66,13 +66,13 @@ abbrev pub lastColumn : ℕ
 lastColumn = 3
 
 abbrev pub toColumn : ℕ → ℕ
-toColumn l = 4 + 2 * l
+toColumn l = 4 + linkWords * l
 
 abbrev pub farColumn : ℕ → ℕ
-farColumn l = 5 + 2 * l
+farColumn l = 5 + linkWords * l
 
 abbrev pub width : ℕ → ℕ
-width M = 4 + 2 * M
+width M = 4 + linkWords * M
 
 -- "Slots 0 to L+C-1": how many there are.
 abbrev pub slots-of : State → ℕ
@@ -102,7 +102,7 @@ firstFree (f ∷ fs) = f
 -- "4+2l, 5+2l | link l": n links from level l on, of an owner of height ht that `ys` follow; "links at or above a node's height are absent".
 abbrev pub nodeLinks : ℕ → ℕ → ℕ → List Node → List ℕ
 nodeLinks l zero ht ys = []
-nodeLinks l (suc n) ht ys = cond (ltb l ht) (target (suc l) ys ∷ distance (suc l) ys ∷ nodeLinks (suc l) n ht ys) (N ∷ 0 ∷ nodeLinks (suc l) n ht ys)
+nodeLinks l (suc n) ht ys = cond (ltb l ht) (linkOf (suc l) ys) absentLink ++ nodeLinks (suc l) n ht ys
 
 -- "head: length, M, first node or N, last node or N, links".
 abbrev pub headWords : ℕ → List Node → List ℕ
@@ -113,12 +113,12 @@ abbrev pub nodeWords : ℕ → Node → List Node → List ℕ
 nodeWords M n ys = n .key ∷ n .height ∷ firstSlot ys ∷ 0 ∷ nodeLinks 0 M (n .height) ys
 
 -- "free node: 0, N, next free or N, 0, and N, 0 for each link".
-abbrev pub absent : ℕ → List ℕ
-absent zero = []
-absent (suc n) = N ∷ 0 ∷ absent n
+abbrev pub absentLinks : ℕ → List ℕ
+absentLinks zero = []
+absentLinks (suc n) = absentLink ++ absentLinks n
 
 abbrev pub freeWords : ℕ → List ℕ → List ℕ
-freeWords M fs = 0 ∷ N ∷ firstFree fs ∷ 0 ∷ absent M
+freeWords M fs = 0 ∷ N ∷ firstFree fs ∷ 0 ∷ absentLinks M
 
 -- The record of slot s, where it stands in a list, or on the free chain.
 abbrev pub inList : ℕ → ℕ → List Node → List ℕ → List ℕ

@@ -23,3 +23,13 @@ distance h (y ∷ ys) = cond (leb h (y .height)) 1 (further (distance h ys))
 abbrev pub target : ℕ → List Node → ℕ
 target h [] = N
 target h (y ∷ ys) = cond (leb h (y .height)) (y .slot) (target h ys)
+
+-- "A link is target slot and distance; an absent one is N, 0": how many words it has, the words of the link of stage h, and of an absent one.
+abbrev pub linkWords : ℕ
+linkWords = 2
+
+abbrev pub linkOf : ℕ → List Node → List ℕ
+linkOf h ys = target h ys ∷ distance h ys ∷ []
+
+abbrev pub absentLink : List ℕ
+absentLink = N ∷ 0 ∷ []

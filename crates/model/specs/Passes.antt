@@ -6,9 +6,9 @@ use mathlib.Core.List.{List, [], _∷_, _++_}
 use lib.Dec.{eqb}
 use lib.ListN.{length, getD}
 use Rattle.model.specs.Nodes.{Node, node, N, Sorted, Low}
-use Rattle.model.specs.Links.{distance, target}
-use Rattle.model.specs.Arena.{State, mark, version, markWord, versionWord, listsWord, levelsWord, roomWord, firstFreeWord, freeWord, zeroWord, headerWords, countColumn, keyColumn, heightColumn, nextColumn, lastColumn, toColumn, farColumn, width, lastSlot, encode, listOf}
-use Rattle.model.specs.Cells.{recordAt, cellAt}
+use Rattle.model.specs.Links.{linkOf, absentLink}
+use Rattle.model.specs.Arena.{State, mark, version, markWord, versionWord, listsWord, levelsWord, roomWord, firstFreeWord, freeWord, zeroWord, headerWords, countColumn, keyColumn, heightColumn, nextColumn, lastColumn, width, lastSlot, encode, listOf}
+use Rattle.model.specs.Cells.{recordAt, cellAt, linkAt}
 
 -- ---- the model that words hold ----
 -- n nodes from slot s on, by next; n free slots.
@@ -92,14 +92,12 @@ pub record Chained (L M C : ℕ) (w : List ℕ) (n s : ℕ) : Type 0 where
   pub through : (j : ℕ) → j < n → (L ≤ after M w j s) × (after M w j s < L + C)
   pub ends : after M w n s ≡ N
 
--- The word pair at level l of slot s is the link of an owner that `ys` follow; is absent.
+-- The link of level l of slot s is that of an owner that `ys` follow; is absent.
 pub record LinkIs (M : ℕ) (w : List ℕ) (s l : ℕ) (ys : List Node) : Type 0 where
-  pub to : cellAt M w s (toColumn l) ≡ target (suc l) ys
-  pub far : cellAt M w s (farColumn l) ≡ distance (suc l) ys
+  pub link : linkAt M w s l ≡ linkOf (suc l) ys
 
 pub record Absent (M : ℕ) (w : List ℕ) (s l : ℕ) : Type 0 where
-  pub to : cellAt M w s (toColumn l) ≡ N
-  pub far : cellAt M w s (farColumn l) ≡ 0
+  pub link : linkAt M w s l ≡ absentLink
 
 pub record ClausesOf (L M C : ℕ) (w : List ℕ) : Type 0 where
   -- "length and header are as above"

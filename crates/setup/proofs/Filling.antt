@@ -15,7 +15,7 @@ use Rattle.model.specs.Cells.{cellAt, putAt, Cell}
 use Rattle.model.specs.Calls.{Room, SetUpPromise}
 use Rattle.model.proofs.Tests.{same, other, same?}
 use Rattle.arena.proofs.Cells.{cell-same, cell-other, put-size, mix-end}
-use Rattle.arena.specs.Says.{Says}
+use Rattle.arena.specs.Decides.{Decides}
 use Rattle.arena.specs.Lies.{Lies}
 use Rattle.setup.specs.Bare.{bareWords, Written, Filled, HeaderSet}
 
@@ -92,5 +92,5 @@ new-arena {L} {M} {C} {w₀} {w} {u} r f h =
 pub accepted : {L M C : ℕ} {w u : List ℕ} → Room L M C (length w) → u ≡ encode (setUp L M C) → SetUpPromise L M C w u 0
 accepted r e = record { wrong = λ n. absurd (n r); right = λ _. (refl, e) }
 
-pub refused : {L M C : ℕ} {b : Bool} {w : List ℕ} → Says b (Room L M C (length w)) → b ≡ false → SetUpPromise L M C w w 2
+pub refused : {L M C : ℕ} {b : Bool} {w : List ℕ} → Decides b (Room L M C (length w)) → b ≡ false → SetUpPromise L M C w w 2
 refused s e = record { wrong = λ _. (refl, refl); right = λ r. absurd (subst T e (s .complete r)) }

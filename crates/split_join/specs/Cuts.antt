@@ -6,7 +6,7 @@ use mathlib.Core.List.{List, [], _++_}
 use lib.ListN.{length}
 use Rattle.model.specs.Nodes.{Sorted}
 use Rattle.model.specs.Arena.{farColumn, State, listOf, putList}
-use Rattle.model.specs.Cells.{place, cellAt, putAt}
+use Rattle.model.specs.Cells.{baseOf, cellAt, putAt}
 use Rattle.model.specs.Passes.{nodes}
 use Rattle.arena.specs.Owners.{Listed}
 
@@ -14,7 +14,7 @@ use Rattle.arena.specs.Owners.{Listed}
 pub record LinkIn (w : List ℕ) (m s l : ℕ) : Type 0 where
   pub small : m ≤ 16
   pub level : l < m
-  pub inside : place m s + farColumn l < length w
+  pub inside : baseOf m s + farColumn l < length w
 
 -- List a can be split at index i into the empty list b.
 pub record Splits (w : List ℕ) (m a b i : ℕ) : Type 0 where

@@ -14,7 +14,7 @@ use Rattle.model.specs.Passes.{times, Sound}
 use Rattle.model.proofs.Hang.{InA, its-head, its-node, Hangs}
 use Rattle.model.proofs.Inserting.{withBoth}
 use Rattle.model.proofs.Keeps.{sound-truncate, times-append}
-use Rattle.model.proofs.Owners.{head, listed, freed as chained, place}
+use Rattle.model.proofs.Owners.{head, listed, freed as chained, kind}
 use Rattle.model.proofs.Records.{head-words, node-words, free-words, slot-of, times-mid, timesAll-ge}
 use Rattle.model.proofs.Splitting.{in-first, in-second, in-of}
 use Rattle.model.proofs.Tests.{same, other, same?}
@@ -59,7 +59,7 @@ module _ (S : State) (v : Sound S) (a n : ℕ) (la : a < length (S .lists)) wher
 
   -- a slot that is not freed: an owner that stays, or its record stays
   rest : (s : ℕ) → s < slots-of S → ¬ (1 ≤ times s B) → InA a A s ⊎ (recordOf T s ≡ recordOf S s)
-  rest s l out = elim (place S v s l) [
+  rest s l out = elim (kind S v s l) [
     | head k ↦ elim (same? s a) [
       | same e q ↦ inl (its-head q)
       | other e q ↦ inr (head-words T s (omega (arith, same-lists)) ∙ ap (headWords (S .levels)) (getD-set-other (S .lists) a s A [] q) ∙ sym (head-words S s k))

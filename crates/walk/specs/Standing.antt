@@ -5,7 +5,7 @@ use mathlib.Core.List.{List}
 use lib.ListN.{length, take}
 use Rattle.model.specs.Walks.{last}
 use Rattle.model.specs.Passes.{decode, nodes}
-use Rattle.model.specs.Cells.{place}
+use Rattle.model.specs.Cells.{baseOf}
 use Rattle.arena.specs.Owners.{Owner}
 
 -- Slot s is at rank r of list a, has the links below h, and r is no further than rank i.
@@ -17,7 +17,7 @@ pub record At (w : List ℕ) (m a i h s r : ℕ) : Type 0 where
 
 -- The record of slot s begins at word `base`.
 pub record Placed (m s base : ℕ) : Type 0 where
-  pub is : base ≡ place m s
+  pub is : base ≡ baseOf m s
 
 -- A walk by rank along stage h has stopped: slot s is the last owner of height h that is no further than rank i.
 pub record Sought (w : List ℕ) (m a i h s r : ℕ) : Type 0 where

@@ -33,7 +33,7 @@ pub fn reach(w: &[u32], m: usize, list: Slot, target: Rank) -> Slot
         slot: list,
         rank: Rank::HEAD,
     };
-    let mut base = arena::place(m, list);
+    let mut base = arena::base_of(m, list);
     let mut level = m;
     while 0 < level {
         let far = arena::word(w, base + STAGE_FAR + LINK * level);
@@ -46,7 +46,7 @@ pub fn reach(w: &[u32], m: usize, list: Slot, target: Rank) -> Slot
             slot: to,
             rank: v.rank.plus(far),
         };
-        base = arena::place(m, to);
+        base = arena::base_of(m, to);
     }
     seek_next(w, m, list, v, target)
 }

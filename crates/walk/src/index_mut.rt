@@ -5,7 +5,7 @@ ghost use lib.ListN.{length};
 ghost use Rattle.model.specs.Nodes.{slotAt};
 ghost use Rattle.model.specs.Passes.{nodes};
 ghost use Rattle.arena.specs.Owners.{Listed, Leads};
-ghost use Rattle.arena.specs.Says.{Says};
+ghost use Rattle.arena.specs.Decides.{Decides};
 ghost use Rattle.walk.specs.Ranks.{ByRank};
 ghost use Rattle.walk.specs.Standing.{At};
 use crate::Ended;
@@ -22,7 +22,7 @@ use arena::Slot;
 
 // Whether a link of distance `far`, which is 0 where it is absent, leads no more than `rest` ranks on.
 pub fn within(far: u32, rest: u32) -> bool
-    ensures { λ r. ⌜ Says r ((0 < far) × (far ≤ rest)) ⌝ }
+    ensures { λ r. ⌜ Decides r ((0 < far) × (far ≤ rest)) ⌝ }
 {
     if far == 0 {
         return false;
@@ -61,7 +61,7 @@ pub fn seek(w: &[u32], m: usize, list: Slot, i: Index) -> Path
         slot: list,
         rank: Rank::HEAD,
     };
-    let mut base = arena::place(m, list);
+    let mut base = arena::base_of(m, list);
     let mut level = m;
     while 0 < level {
         let far = arena::word(w, base + STAGE_FAR + LINK * level);
@@ -77,7 +77,7 @@ pub fn seek(w: &[u32], m: usize, list: Slot, i: Index) -> Path
             slot: to,
             rank: v.rank.plus(far),
         };
-        base = arena::place(m, to);
+        base = arena::base_of(m, to);
     }
     let end = seek_next(w, m, list, v, limit);
     Path { slots, ranks, end }

@@ -20,7 +20,7 @@ fn descend(w: &[u32], m: usize, list: Slot, key: u32, allowance: u32) -> Hop
 {
     let mut v = Visitor {
         slot: list,
-        base: arena::place(m, list),
+        base: arena::base_of(m, list),
         rank: Rank::HEAD,
         left: allowance,
     };
@@ -36,7 +36,7 @@ fn descend(w: &[u32], m: usize, list: Slot, key: u32, allowance: u32) -> Hop
         }
         v.left = v.left - 1;
         let next = Slot(to);
-        let there = arena::place(m, next);
+        let there = arena::base_of(m, next);
         let met = arena::word(w, there);
         if key <= met {
             level = level - 1;
@@ -67,7 +67,7 @@ fn follow(w: &[u32], m: usize, list: Slot, key: u32, allowance: u32, from: Visit
         }
         u.left = u.left - 1;
         let next = Slot(to);
-        let there = arena::place(m, next);
+        let there = arena::base_of(m, next);
         let met = arena::word(w, there);
         if key < met {
             return Searched::Missing(u.rank.after(), allowance - u.left);

@@ -5,7 +5,7 @@ ghost use Rattle.model.specs.Nodes.{N};
 ghost use Rattle.model.specs.Arena.{keyColumn};
 ghost use Rattle.model.specs.Cells.{cellAt};
 ghost use Rattle.arena.specs.Owners.{Listed};
-ghost use Rattle.arena.specs.Says.{Says};
+ghost use Rattle.arena.specs.Decides.{Decides};
 ghost use Rattle.walk.specs.Trails.{Readable, Begun, Stopped, Trailed};
 use crate::Outcome;
 use crate::Stop;
@@ -23,7 +23,7 @@ use arena::Slot;
 // Whether a link leads to a key that is smaller: it is not absent, and slot `to` has such a key.
 fn smaller(w: &[u32], m: usize, to: Slot, key: u32) -> bool
     requires { ⌜ Readable (now w) m (to .0) ⌝ }
-    ensures { λ r. ⌜ Says r ((to .0 < N) × (cellAt m (now (w .entry)) (to .0) keyColumn < key)) ⌝ }
+    ensures { λ r. ⌜ Decides r ((to .0 < N) × (cellAt m (now (w .entry)) (to .0) keyColumn < key)) ⌝ }
 {
     if to.0 == Slot::NONE.0 {
         return false;
@@ -88,7 +88,7 @@ pub fn find(w: &[u32], m: usize, list: Slot, key: u32) -> Trail
         rank: Rank::HEAD,
         bound: Slot::NONE,
     };
-    let mut base = arena::place(m, list);
+    let mut base = arena::base_of(m, list);
     let mut level = m;
     while 0 < level {
         let to = Slot(arena::word(w, base + STAGE_TO + LINK * level));
@@ -107,7 +107,7 @@ pub fn find(w: &[u32], m: usize, list: Slot, key: u32) -> Trail
         let rank = v.rank.plus(far);
         v.rank = rank;
         v.slot = to;
-        base = arena::place(m, to);
+        base = arena::base_of(m, to);
     }
     trail(slots, ranks, trace_next(w, m, list, key, v))
 }

@@ -1,7 +1,7 @@
 -- `arena_check::whole` meets its contract: the tests one after the other.
 use mathlib.Core.Path.{_∙_, sym}
 use borrow.Author.Needs.{needs}
-use Rattle.arena.proofs.Saying.{yes}
+use Rattle.arena.proofs.Deciding.{yes}
 use Rattle.arena_check.proofs.Wholes.{shaped, no-header, no-counts, no-free, no-lists, whole-lasts}
 use Rattle.arena_check.proofs.whole.Statement.{statement}
 use Rattle.arena_check.proofs.whole.Tie as tie

@@ -4,7 +4,7 @@ use Rattle.setup.proofs.Filling.{new-arena, accepted, refused}
 use borrow.Author.Needs.{needs}
 use Rattle.setup.proofs.set_up.Statement.{statement}
 use Rattle.setup.proofs.set_up.Tie as tie
-use Rattle.arena.proofs.Saying.{yes}
+use Rattle.arena.proofs.Deciding.{yes}
 
 fits-requires : tie.Need-fits-requires
 fits-requires c κs = search needs

@@ -4,8 +4,8 @@ use borrow.Author.Needs.{needs}
 use Rattle.arena.proofs.words.cell.Statement.{statement}
 use Rattle.arena.proofs.words.cell.Tie as tie
 
-place-requires : tie.Need-place-requires
-place-requires c κs = search needs
+base-of-requires : tie.Need-base-of-requires
+base-of-requires c κs = search needs
 
 add-result : tie.Need-add-result
 add-result c = search needs
@@ -21,4 +21,4 @@ unfolding cellAt
 returns c = cc
 
 pub cell-spec : {M : Type 1} → statement M
-cell-spec = tie.close (tie.spec place-requires add-result mul-result shared-slice-read-result returns)
+cell-spec = tie.close (tie.spec base-of-requires add-result mul-result shared-slice-read-result returns)

@@ -4,8 +4,8 @@ use borrow.Author.Needs.{needs}
 use Rattle.arena.proofs.words.put.Statement.{statement}
 use Rattle.arena.proofs.words.put.Tie as tie
 
-place-requires : tie.Need-place-requires
-place-requires c κs = search needs
+base-of-requires : tie.Need-base-of-requires
+base-of-requires c κs = search needs
 
 add-at : tie.Need-add-at
 add-at c = search needs
@@ -24,4 +24,4 @@ unfolding putAt
 returns c = cc
 
 pub put-spec : {M : Type 1} → statement M
-put-spec = tie.close (tie.spec place-requires add-at mul-w slice-write-w same-length returns)
+put-spec = tie.close (tie.spec base-of-requires add-at mul-w slice-write-w same-length returns)

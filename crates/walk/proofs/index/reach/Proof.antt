@@ -3,7 +3,7 @@
 use borrow.Author.Needs.{needs}
 use Prim.Native.Nat.{_+_, _-_, _*_}
 use native.Mathlib.Omega.{arith}
-use Rattle.arena.proofs.Saying.{yes}
+use Rattle.arena.proofs.Deciding.{yes}
 use Rattle.walk.specs.Standing.{At, Placed}
 use Rattle.walk.proofs.Looks.{few, down-to, stage-in, to-read, far-read}
 use Rattle.walk.proofs.Seeking.{at-head, goes-on}
@@ -39,13 +39,13 @@ record Known-after-plus : Type 0 where
   to : tie.After-word2 Inv-loop μ-loop
   after-plus : tie.After-plus Inv-loop μ-loop
 
-place-requires : tie.Need-place-requires Inv-loop μ-loop
-place-requires c κs = search needs
+base-of-requires : tie.Need-base-of-requires Inv-loop μ-loop
+base-of-requires c κs = search needs
 
 loop-holds : tie.Need-loop-holds Inv-loop μ-loop
 loop-holds c =
     let start : tie.Start Inv-loop μ-loop = search in
-    (at-head (start .pre .0) (start .pre .1), record { is = c .place .ensures })
+    (at-head (start .pre .0) (start .pre .1), record { is = c .base-of .ensures })
 
 add-word : tie.Need-add-word Inv-loop μ-loop
 add-word c = omega (arith, stage-in (c .before .loop .inv .0) (c .before .loop .inv .1) (c .loop-test .taken) (c .before .loop .base + 3 + 2 * c .before .loop .level) (omega arith))
@@ -99,8 +99,8 @@ plus-requires c κs =
     let (at-loop, after-within, then1) : At-loop × After-within × Then1 = search in
     let y = yes (after-within .within .ensures) (then1 .if1 .taken) in let g = at-loop .loop .inv .0 in omega (arith, y, g .before, g .within, few g)
 
-place-requires-2 : tie.Need-place-requires-2 Inv-loop μ-loop
-place-requires-2 c κs = search needs
+base-of-requires-2 : tie.Need-base-of-requires-2 Inv-loop μ-loop
+base-of-requires-2 c κs = search needs
 
 loop-less-2 : tie.Need-loop-less-2 Inv-loop μ-loop
 loop-less-2 c =
@@ -111,7 +111,7 @@ loop-again-2 : tie.Need-loop-again-2 Inv-loop μ-loop
 loop-again-2 c =
     let known : Known-after-plus = search in (
       goes-on (known .at-loop .loop .inv .0) (far-read (known .at-loop .loop .inv .0) (known .at-loop .loop .inv .1) (known .in-loop .loop-test .taken) (omega arith) (known .far .word .ensures)) (yes (known .after-within .within .ensures) (known .then1 .if1 .taken)) (to-read (known .at-loop .loop .inv .0) (known .at-loop .loop .inv .1) (known .in-loop .loop-test .taken) (omega arith) (known .to .word2 .ensures)) (known .after-plus .plus .ensures),
-      record { is = c .place2 .ensures },
+      record { is = c .base-of2 .ensures },
     )
 
 seek-next-requires : tie.Need-seek-next-requires Inv-loop μ-loop
@@ -126,7 +126,7 @@ reach-spec =
     (tie.spec
     Inv-loop
     μ-loop
-    place-requires
+    base-of-requires
     loop-holds
     add-word
     mul-word
@@ -142,7 +142,7 @@ reach-spec =
     add-word-4
     word-requires-2
     plus-requires
-    place-requires-2
+    base-of-requires-2
     loop-less-2
     loop-again-2
     seek-next-requires

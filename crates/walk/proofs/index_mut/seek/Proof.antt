@@ -4,7 +4,7 @@ use borrow.Author.Needs.{needs}
 use Prim.Native.Nat.{_+_, _-_, _*_}
 use mathlib.Core.Path.{refl}
 use native.Mathlib.Omega.{arith}
-use Rattle.arena.proofs.Saying.{yes, no}
+use Rattle.arena.proofs.Deciding.{yes, no}
 use Rattle.walk.specs.Standing.{At, Placed}
 use Rattle.walk.proofs.Looks.{small, few, down-to, stage-in, to-read, far-read}
 use Rattle.walk.proofs.Seeking.{at-head, ends-here, goes-on, Noted, noted-none, noted-all, noted-more}
@@ -43,13 +43,13 @@ record Known-after-plus : Type 0 where
 before-requires : tie.Need-before-requires Inv-loop μ-loop
 before-requires c κs = tt
 
-place-requires : tie.Need-place-requires Inv-loop μ-loop
-place-requires c κs = search needs
+base-of-requires : tie.Need-base-of-requires Inv-loop μ-loop
+base-of-requires c κs = search needs
 
 loop-holds : tie.Need-loop-holds Inv-loop μ-loop
 loop-holds c =
     let (start, after-before2) : tie.Start Inv-loop μ-loop × tie.After-before2 Inv-loop μ-loop = search in
-    let p = start .pre in (at-head (p .0) (rw (after-before2 .before2 .ensures) (p .1)), record { is = c .place .ensures }, noted-none (refl, refl))
+    let p = start .pre in (at-head (p .0) (rw (after-before2 .before2 .ensures) (p .1)), record { is = c .base-of .ensures }, noted-none (refl, refl))
 
 add-word : tie.Need-add-word Inv-loop μ-loop
 add-word c = omega (arith, stage-in (c .before .loop .inv .0) (c .before .loop .inv .1) (c .loop-test .taken) (c .before .loop .base + 3 + 2 * c .before .loop .level) (omega arith))
@@ -117,8 +117,8 @@ plus-requires c κs =
     let (at-loop, after-within, then1) : At-loop × After-within × Then1 = search in
     let y = yes (after-within .within .ensures) (then1 .if1 .taken) in let g = at-loop .loop .inv .0 in omega (arith, y, g .before, g .within, few g)
 
-place-requires-2 : tie.Need-place-requires-2 Inv-loop μ-loop
-place-requires-2 c κs = search needs
+base-of-requires-2 : tie.Need-base-of-requires-2 Inv-loop μ-loop
+base-of-requires-2 c κs = search needs
 
 loop-less-2 : tie.Need-loop-less-2 Inv-loop μ-loop
 loop-less-2 c =
@@ -129,7 +129,7 @@ loop-again-2 : tie.Need-loop-again-2 Inv-loop μ-loop
 loop-again-2 c =
     let known : Known-after-plus = search in (
       goes-on (known .at-loop .loop .inv .0) (far-read (known .at-loop .loop .inv .0) (known .at-loop .loop .inv .1) (known .in-loop .loop-test .taken) (omega arith) (known .far .word .ensures)) (yes (known .after-within .within .ensures) (known .then1 .if1 .taken)) (to-read (known .at-loop .loop .inv .0) (known .at-loop .loop .inv .1) (known .in-loop .loop-test .taken) (omega arith) (known .to .word2 .ensures)) (known .after-plus .plus .ensures),
-      record { is = c .place2 .ensures },
+      record { is = c .base-of2 .ensures },
       known .at-loop .loop .inv .2,
     )
 
@@ -148,7 +148,7 @@ seek-spec =
     Inv-loop
     μ-loop
     before-requires
-    place-requires
+    base-of-requires
     loop-holds
     add-word
     mul-word
@@ -168,7 +168,7 @@ seek-spec =
     add-word-4
     word-requires-2
     plus-requires
-    place-requires-2
+    base-of-requires-2
     loop-less-2
     loop-again-2
     seek-next-requires

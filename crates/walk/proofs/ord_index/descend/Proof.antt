@@ -33,8 +33,8 @@ Else1 = tie.Else1 Inv-loop μ-loop
 abbrev Else2 : Type 0
 Else2 = tie.Else2 Inv-loop μ-loop
 
-abbrev After-place2 : Type 0
-After-place2 = tie.After-place2 Inv-loop μ-loop
+abbrev After-base-of2 : Type 0
+After-base-of2 = tie.After-base-of2 Inv-loop μ-loop
 
 abbrev After-word2 : Type 0
 After-word2 = tie.After-word2 Inv-loop μ-loop
@@ -45,16 +45,16 @@ record Known-met : Type 0 where
   to : After-word
   else1 : Else1
   else2 : Else2
-  there : After-place2
+  there : After-base-of2
   met : After-word2
 
-place-requires : tie.Need-place-requires Inv-loop μ-loop
-place-requires c κs = search needs
+base-of-requires : tie.Need-base-of-requires Inv-loop μ-loop
+base-of-requires c κs = search needs
 
 loop-holds : tie.Need-loop-holds Inv-loop μ-loop
 loop-holds c =
     let start : tie.Start Inv-loop μ-loop = search in
-    record { walking = walking-start _ _ (start .pre); placed = record { is = c .place .ensures } }
+    record { walking = walking-start _ _ (start .pre); placed = record { is = c .base-of .ensures } }
 
 add-word : tie.Need-add-word Inv-loop μ-loop
 add-word c =
@@ -110,8 +110,8 @@ returns c =
 sub-v : tie.Need-sub-v Inv-loop μ-loop
 sub-v c = omega arith
 
-place-requires-2 : tie.Need-place-requires-2 Inv-loop μ-loop
-place-requires-2 c κs = search needs
+base-of-requires-2 : tie.Need-base-of-requires-2 Inv-loop μ-loop
+base-of-requires-2 c κs = search needs
 
 word-requires-2 : tie.Need-word-requires-2 Inv-loop μ-loop
 word-requires-2 c κs =
@@ -120,7 +120,7 @@ word-requires-2 c κs =
     let p = at-loop .loop .inv .placed in
     let z = in-loop .loop-test .taken in
     let t = to-read (g .at) p z (omega arith) (to .word .ensures) in
-    inside (ahead (g .at) t (else1 .if1 .left) .1 .at) (record { is = c .place2 .ensures }) 0 _ (omega arith) (omega arith)
+    inside (ahead (g .at) t (else1 .if1 .left) .1 .at) (record { is = c .base-of2 .ensures }) 0 _ (omega arith) (omega arith)
 
 sub-level-2 : tie.Need-sub-level-2 Inv-loop μ-loop
 sub-level-2 c = search needs
@@ -135,7 +135,7 @@ loop-again-2 c =
     let p = known .at-loop .loop .inv .placed in
     let z = known .in-loop .loop-test .taken in
     let t = to-read (g .at) p z (omega arith) (known .to .word .ensures) in
-    let k = key-read _ (record { is = known .there .place2 .ensures }) (known .met .word2 .ensures) in
+    let k = key-read _ (record { is = known .there .base-of2 .ensures }) (known .met .word2 .ensures) in
     record { walking = down-other g _ t (known .else1 .if1 .left) (known .else2 .if2 .left) _ k (c .if3 .taken) _ (omega (arith, z)); placed = p }
 
 add-word-3 : tie.Need-add-word-3 Inv-loop μ-loop
@@ -173,7 +173,7 @@ plus-requires c κs =
       to : After-word;
       else1 : Else1;
       else2 : Else2;
-      there : After-place2;
+      there : After-base-of2;
       met : After-word2;
       else3 : tie.Else3 Inv-loop μ-loop;
     } = search in
@@ -181,7 +181,7 @@ plus-requires c κs =
     let p = known .at-loop .loop .inv .placed in
     let z = known .in-loop .loop-test .taken in
     let t = to-read (g .at) p z (omega arith) (known .to .word .ensures) in
-    let k = key-read _ (record { is = known .there .place2 .ensures }) (known .met .word2 .ensures) in
+    let k = key-read _ (record { is = known .there .base-of2 .ensures }) (known .met .word2 .ensures) in
     let n = go-there g _ t (known .else1 .if1 .left) (known .else2 .if2 .left) _ k (known .else3 .if3 .left) _ _ (far-read (g .at) p z (omega arith) (c .word3 .ensures)) refl in
     omega (arith, few (g .at), n .at .before)
 
@@ -196,7 +196,7 @@ loop-again-3 c =
       to : After-word;
       else1 : Else1;
       else2 : Else2;
-      there : After-place2;
+      there : After-base-of2;
       met : After-word2;
       else3 : tie.Else3 Inv-loop μ-loop;
       far : tie.After-word3 Inv-loop μ-loop;
@@ -205,8 +205,8 @@ loop-again-3 c =
     let p = known .at-loop .loop .inv .placed in
     let z = known .in-loop .loop-test .taken in
     let t = to-read (g .at) p z (omega arith) (known .to .word .ensures) in
-    let k = key-read _ (record { is = known .there .place2 .ensures }) (known .met .word2 .ensures) in
-    record { walking = go-there g _ t (known .else1 .if1 .left) (known .else2 .if2 .left) _ k (known .else3 .if3 .left) _ _ (far-read (g .at) p z (omega arith) (known .far .word3 .ensures)) (c .plus .ensures); placed = record { is = known .there .place2 .ensures } }
+    let k = key-read _ (record { is = known .there .base-of2 .ensures }) (known .met .word2 .ensures) in
+    record { walking = go-there g _ t (known .else1 .if1 .left) (known .else2 .if2 .left) _ k (known .else3 .if3 .left) _ _ (far-read (g .at) p z (omega arith) (known .far .word3 .ensures)) (c .plus .ensures); placed = record { is = known .there .base-of2 .ensures } }
 
 returns-2 : tie.Need-returns-2 Inv-loop μ-loop
 returns-2 c = let z : c .before .loop .level ≡ 0 = omega (arith, c .loop-test .left) in rw z at (c .before .loop .inv)
@@ -217,7 +217,7 @@ descend-spec =
     (tie.spec
     Inv-loop
     μ-loop
-    place-requires
+    base-of-requires
     loop-holds
     add-word
     mul-word
@@ -228,7 +228,7 @@ descend-spec =
     loop-again
     returns
     sub-v
-    place-requires-2
+    base-of-requires-2
     word-requires-2
     sub-level-2
     loop-less-2

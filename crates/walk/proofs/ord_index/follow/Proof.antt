@@ -33,8 +33,8 @@ Else1 = tie.Else1 Inv-loop μ-loop
 abbrev Else2 : Type 0
 Else2 = tie.Else2 Inv-loop μ-loop
 
-abbrev After-place : Type 0
-After-place = tie.After-place Inv-loop μ-loop
+abbrev After-base-of : Type 0
+After-base-of = tie.After-base-of Inv-loop μ-loop
 
 abbrev After-word2 : Type 0
 After-word2 = tie.After-word2 Inv-loop μ-loop
@@ -90,8 +90,8 @@ returns-2 c =
 sub-u : tie.Need-sub-u Inv-loop μ-loop
 sub-u c = omega arith
 
-place-requires : tie.Need-place-requires Inv-loop μ-loop
-place-requires c κs = search needs
+base-of-requires : tie.Need-base-of-requires Inv-loop μ-loop
+base-of-requires c κs = search needs
 
 word-requires-2 : tie.Need-word-requires-2 Inv-loop μ-loop
 word-requires-2 c κs =
@@ -100,7 +100,7 @@ word-requires-2 c κs =
     let g = b .walking in
     let p = b .placed in
     let t = next-read (g .at) p refl (to .word .ensures) in
-    inside (ahead (g .at) t (else1 .if1 .left) .1 .at) (record { is = c .place .ensures }) 0 _ (omega arith) (omega arith)
+    inside (ahead (g .at) t (else1 .if1 .left) .1 .at) (record { is = c .base-of .ensures }) 0 _ (omega arith) (omega arith)
 
 after-requires-2 : tie.Need-after-requires-2 Inv-loop μ-loop
 after-requires-2 c κs = tt
@@ -121,7 +121,7 @@ returns-3 c =
       to : After-word;
       else1 : Else1;
       else2 : Else2;
-      there : After-place;
+      there : After-base-of;
       met : After-word2;
       then3 : tie.Then3 Inv-loop μ-loop;
       after-after2 : tie.After-after2 Inv-loop μ-loop;
@@ -130,7 +130,7 @@ returns-3 c =
     let g = b .walking in
     let p = b .placed in
     let t = next-read (g .at) p refl (known .to .word .ensures) in
-    let k = key-read _ (record { is = known .there .place .ensures }) (known .met .word2 .ensures) in
+    let k = key-read _ (record { is = known .there .base-of .ensures }) (known .met .word2 .ensures) in
     answers-greater g _ t (known .else1 .if1 .left) (known .else2 .if2 .left) _ k (known .then3 .if3 .taken) _ (known .after-after2 .after2 .ensures)
 
 plus-requires : tie.Need-plus-requires Inv-loop μ-loop
@@ -160,7 +160,7 @@ returns-4 c =
       to : After-word;
       else1 : Else1;
       else2 : Else2;
-      there : After-place;
+      there : After-base-of;
       met : After-word2;
       after-plus : tie.After-plus Inv-loop μ-loop;
       then4 : tie.Then4 Inv-loop μ-loop;
@@ -170,7 +170,7 @@ returns-4 c =
     let g = b .walking in
     let p = b .placed in
     let t = next-read (g .at) p refl (known .to .word .ensures) in
-    let k = key-read _ (record { is = known .there .place .ensures }) (known .met .word2 .ensures) in
+    let k = key-read _ (record { is = known .there .base-of .ensures }) (known .met .word2 .ensures) in
     answers-equal g _ t (known .else1 .if1 .left) (known .else2 .if2 .left) _ k (known .then4 .if4 .taken) _ (omega (arith, known .after-to-index .to-index .ensures, known .after-plus .plus .ensures))
 
 loop-less : tie.Need-loop-less Inv-loop μ-loop
@@ -183,7 +183,7 @@ loop-again c =
       to : After-word;
       else1 : Else1;
       else2 : Else2;
-      there : After-place;
+      there : After-base-of;
       met : After-word2;
       else3 : tie.Else3 Inv-loop μ-loop;
       after-plus : tie.After-plus Inv-loop μ-loop;
@@ -192,10 +192,10 @@ loop-again c =
     let b = known .at-loop .loop .inv a h in
     let g = b .walking in
     let t = next-read (g .at) (b .placed) refl (known .to .word .ensures) in
-    let k = key-read _ (record { is = known .there .place .ensures }) (known .met .word2 .ensures) in
+    let k = key-read _ (record { is = known .there .base-of .ensures }) (known .met .word2 .ensures) in
     record {
       walking = go-there g _ t (known .else1 .if1 .left) (known .else2 .if2 .left) _ k (omega (arith, known .else3 .if3 .left, c .if4 .left)) 1 _ (next-far (g .at) t (known .else1 .if1 .left)) (known .after-plus .plus .ensures);
-      placed = record { is = known .there .place .ensures };
+      placed = record { is = known .there .base-of .ensures };
     }
 
 pub follow-spec : {M : Type 1} → statement M
@@ -212,7 +212,7 @@ follow-spec =
     returns
     returns-2
     sub-u
-    place-requires
+    base-of-requires
     word-requires-2
     after-requires-2
     sub-t19

@@ -3,6 +3,6 @@ use mathlib.Core.Bool.{Bool}
 use lib.Dec.{T}
 
 -- The answer b is yes exactly when P.
-pub record Says (b : Bool) (P : Type 0) : Type 0 where
+pub record Decides (b : Bool) (P : Type 0) : Type 0 where
   pub sound : T b → P
   pub complete : P → T b

@@ -5,8 +5,8 @@ use native.Mathlib.Nat.{mul-le-mul-left}
 use native.Mathlib.Omega.{arith}
 use Rattle.model.specs.Arena.{width}
 use borrow.Author.Needs.{needs}
-use Rattle.arena.proofs.layout.place.Statement.{statement}
-use Rattle.arena.proofs.layout.place.Tie as tie
+use Rattle.arena.proofs.layout.base_of.Statement.{statement}
+use Rattle.arena.proofs.layout.base_of.Tie as tie
 
 wide-requires : tie.Need-wide-requires
 wide-requires c κs = search needs
@@ -29,5 +29,5 @@ add-result c =
 returns : tie.Need-returns
 returns c = cc
 
-pub place-spec : {M : Type 1} → statement M
-place-spec = tie.close (tie.spec wide-requires width-requires mul-result add-result returns)
+pub base-of-spec : {M : Type 1} → statement M
+base-of-spec = tie.close (tie.spec wide-requires width-requires mul-result add-result returns)
