@@ -30,7 +30,7 @@ use Rattle.arena.proofs.Relink.{Relinked, relink-start, old-far-is, turned}
 use Rattle.model.proofs.Steps.{distance-le}
 use Rattle.insert_remove.specs.Changes.{Rehung}
 use Rattle.insert_remove.specs.Levels.{Level, LevelOut}
-use Rattle.spans.proofs.Distances.{farther-is}
+use Rattle.link.proofs.Changed.{farther-is}
 use Rattle.insert_remove.proofs.InsertLinks.{free-link, past-le, further-past}
 use Rattle.insert_remove.proofs.Spanning.{lies, spanned}
 

@@ -2,6 +2,14 @@
 ghost use mathlib.Core.Path.{_≡_};
 ghost use Rattle.link.specs.Distances.{told, made, raised, lowered};
 
+mod spans;
+
+pub use spans::farther;
+pub use spans::longer;
+pub use spans::made;
+pub use spans::nearer;
+pub use spans::shorter;
+
 // What a link call answers: the distance, or one of the crate's three errors.
 pub enum Distance {
     Is(u32),

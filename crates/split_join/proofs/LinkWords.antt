@@ -22,7 +22,7 @@ use Rattle.model.proofs.Hang.{Hung, Stage}
 use Rattle.model.proofs.Links.{past}
 use Rattle.model.proofs.Owners.{says-to, says-far}
 use Rattle.model.proofs.Records.{head-words}
-use Rattle.spans.proofs.Distances.{farther-is}
+use Rattle.link.proofs.Changed.{farther-is}
 
 -- the words with level l of slots x and y stored
 abbrev pub fourPuts : ℕ → List ℕ → ℕ → ℕ → ℕ → ℕ → ℕ → ℕ → ℕ → List ℕ

@@ -11,7 +11,7 @@ use arena::TO;
 use arena::cell;
 use arena::put;
 use arena::put2;
-use spans::farther;
+use link::farther;
 ghost use mathlib.Core.Path.{_≡_};
 ghost use lib.ListN.{length};
 ghost use Rattle.model.specs.Arena.{encode};

@@ -1,5 +1,5 @@
 // How the operations change a link's distance, by the link calls of module 1. Distance 0, which they refuse, is an absent link's: it stays absent.
-use link::Distance;
+use crate::Distance;
 ghost use mathlib.Core.Path.{_≡_};
 ghost use mathlib.Core.Bool.{cond};
 ghost use Prim.Native.Nat.{_+_, _-_, _<_};
@@ -10,7 +10,7 @@ ghost use Rattle.model.specs.Links.{further};
 pub fn made(d: u32) -> u32
     ensures { λ r. ⌜ r ≡ d ⌝ }
 {
-    let Distance::Is(x) = link::make(d) else {
+    let Distance::Is(x) = crate::make(d) else {
         return 0;
     };
     x
@@ -21,7 +21,7 @@ pub fn longer(far: u32) -> u32
     requires { ⌜ far < 4294967295 ⌝ }
     ensures { λ r. ⌜ r ≡ further far ⌝ }
 {
-    let Distance::Is(x) = link::raise(far) else {
+    let Distance::Is(x) = crate::raise(far) else {
         return 0;
     };
     x
@@ -31,7 +31,7 @@ pub fn longer(far: u32) -> u32
 pub fn shorter(far: u32) -> u32
     ensures { λ r. ⌜ r ≡ far - 1 ⌝ }
 {
-    let Distance::Is(x) = link::lower(far) else {
+    let Distance::Is(x) = crate::lower(far) else {
         return 0;
     };
     x

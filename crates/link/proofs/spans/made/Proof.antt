@@ -1,9 +1,9 @@
--- `spans::made` meets its contract: the distance told, 0 where the call refuses, is the one promised.
+-- `link::spans::made` meets its contract: the distance told, 0 where the call refuses, is the one promised.
 use mathlib.Core.Path.{_∙_}
 use borrow.Author.Needs.{needs}
-use Rattle.spans.proofs.Distances.{refused, given, made-is}
-use Rattle.spans.proofs.made.Statement.{statement}
-use Rattle.spans.proofs.made.Tie as tie
+use Rattle.link.proofs.Changed.{refused, given, made-is}
+use Rattle.link.proofs.spans.made.Statement.{statement}
+use Rattle.link.proofs.spans.made.Tie as tie
 
 make-requires : tie.Need-make-requires
 make-requires c κs = search needs

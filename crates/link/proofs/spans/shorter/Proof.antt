@@ -1,9 +1,9 @@
--- `spans::shorter` meets its contract: the distance told, 0 where the call refuses, is the one promised.
+-- `link::spans::shorter` meets its contract: the distance told, 0 where the call refuses, is the one promised.
 use mathlib.Core.Path.{_∙_}
 use borrow.Author.Needs.{needs}
-use Rattle.spans.proofs.Distances.{refused, given, lowered-is}
-use Rattle.spans.proofs.shorter.Statement.{statement}
-use Rattle.spans.proofs.shorter.Tie as tie
+use Rattle.link.proofs.Changed.{refused, given, lowered-is}
+use Rattle.link.proofs.spans.shorter.Statement.{statement}
+use Rattle.link.proofs.spans.shorter.Tie as tie
 
 lower-requires : tie.Need-lower-requires
 lower-requires c κs = search needs

@@ -1,9 +1,9 @@
--- `spans::longer` meets its contract: the distance told, 0 where the call refuses, is the one promised.
+-- `link::spans::longer` meets its contract: the distance told, 0 where the call refuses, is the one promised.
 use mathlib.Core.Path.{_∙_}
 use borrow.Author.Needs.{needs}
-use Rattle.spans.proofs.Distances.{refused, given, raised-is}
-use Rattle.spans.proofs.longer.Statement.{statement}
-use Rattle.spans.proofs.longer.Tie as tie
+use Rattle.link.proofs.Changed.{refused, given, raised-is}
+use Rattle.link.proofs.spans.longer.Statement.{statement}
+use Rattle.link.proofs.spans.longer.Tie as tie
 
 raise-requires : tie.Need-raise-requires
 raise-requires c κs = search needs

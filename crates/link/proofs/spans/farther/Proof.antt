@@ -1,8 +1,8 @@
--- `spans::farther` meets its contract: each return rewrites the definition by the test that led to it.
+-- `link::spans::farther` meets its contract: each return rewrites the definition by the test that led to it.
 use borrow.Author.Needs.{needs}
 use borrow.Author.Tests.{eq-eqb, ne-eqb}
-use Rattle.spans.proofs.farther.Statement.{statement}
-use Rattle.spans.proofs.farther.Tie as tie
+use Rattle.link.proofs.spans.farther.Statement.{statement}
+use Rattle.link.proofs.spans.farther.Tie as tie
 
 returns : tie.Need-returns
 returns c = search (needs, eq-eqb)
