@@ -1,12 +1,11 @@
 -- Words whose header, heads, nodes and free slots read as a sound model's are that model's words; and what a store does to the records.
 -- Rests on Records.
-use Prim.Native.Nat.{ℕ, zero, suc, _+_, _-_, _*_, _≤_, _<_}
+use Prim.Native.Nat.{ℕ, zero, suc, _+_, _*_, _≤_, _<_}
 use mathlib.Core.Path.{_≡_, refl, sym, ap, ap₂, _∙_, subst}
-use mathlib.Core.Logic.{_≢_}
 use mathlib.Core.List.{List, [], _∷_, _++_}
-use lib.ListN.{length, take, drop, getD, set, take-append-drop, length-drop}
-use lib.Seq.{drop-drop, drop-set-lt, drop-set-add, take-set-le, take-set-lt}
-use native.Mathlib.Nat.{zero-mul, add-zero, zero-add, mul-le-mul-right}
+use lib.ListN.{length, take, drop, getD, take-append-drop, length-drop}
+use lib.Seq.{drop-drop}
+use native.Mathlib.Nat.{zero-mul, add-zero, zero-add}
 use native.Mathlib.Omega.{arith}
 use Rattle.model.specs.Arena.{width, State, nodeWords, headWords, freeWords, recordOf, records, header, encode, listOf}
 use Rattle.model.specs.Cells.{recordAt}
@@ -80,22 +79,6 @@ words-are S v w r =
     ∙ ap₂ (λ (x y : List ℕ). x ++ y) (r .front)
     (recs-build W (recordOf S) 0 (length (S .lists) + S .room) (drop 8 w) (omega (arith, length-drop 8 w, r .size))
     (λ j k. rw (drop-drop (j * W) 8 w, zero-add j) (records-are S v w r j k)))
-
--- ---- a store ----
-pub rec-set-same : (M : ℕ) (w : List ℕ) (s c v : ℕ) → c < width M → recordAt M (set w (8 + s * (width M) + c) v) s ≡ set (recordAt M w s) c v
-rec-set-same M w s c v l = rw (drop-set-add (8 + s * (width M)) w c v, take-set-lt (width M) (drop (8 + s * (width M)) w) c v l) refl
-
-pub rec-set-other : (M : ℕ) (w : List ℕ) (s z c v : ℕ) → c < width M → s ≢ z → recordAt M (set w (8 + s * (width M) + c) v) z ≡ recordAt M w z
-rec-set-other M w s z c v l ne = elim (test (suc s) z) [
-  | hit e p ↦ rw (drop-set-lt (8 + z * (width M)) w (8 + s * (width M) + c) v (omega (arith, mul-le-mul-right (width M) p))) refl
-  | miss e p ↦
-      let q : suc z ≤ s = omega arith in
-      let W = width M in
-      let d = 8 + s * W + c - (8 + z * W) in
-      let m = mul-le-mul-right W q in
-      let f : 8 + s * W + c ≡ 8 + z * W + d = omega arith in
-      rw (f, drop-set-add (8 + z * W) w d v, take-set-le W (drop (8 + z * W) w) d v (omega arith)) refl
-]
 
 -- the words of a sound state pass
 pub passes-encode : (S : State) → Sound S → Sizes S → Passes (encode S)

@@ -4,10 +4,10 @@ use Prim.Native.Nat.{ℕ, suc, _-_, _<_}
 use mathlib.Core.Path.{_≡_, refl, sym, ap, _∙_}
 use mathlib.Core.Bool.{Bool, true, false}
 use mathlib.Core.List.{List}
-use lib.ListN.{length, take, drop, getD}
+use lib.ListN.{length, drop, getD}
 use Rattle.model.specs.Nodes.{Node, at, smaller, smallerKeys, Sorted}
-use Rattle.model.specs.Walks.{stand, precursors, isFound, placeOf, keyWalk, keyIs, last}
-use Rattle.model.proofs.Precursor.{LastBelow, FoundFirst, stop-is, precursor-is, found-is, missing-is}
+use Rattle.model.specs.Walks.{stand, precursors, isFound, placeOf, keyWalk, keyIs}
+use Rattle.model.proofs.Precursor.{LastBelow, FoundFirst, precursor-is, found-is, missing-is}
 use Rattle.model.proofs.Searching.{walk-found, walk-place, precursor-stop, smaller-all}
 use Rattle.model.proofs.Walk.{place-is}
 
@@ -19,9 +19,6 @@ module _ (M t : ℕ) (xs : List Node) (s : Sorted xs) where
   -- "for each level: the precursor is the last node of height above that level whose key is below the target, or the head, with its rank"
   pub key-precursor : (l : ℕ) → l < M → LastBelow (suc l) t xs (precursorRank M t xs l)
   key-precursor l k = rw (precursor-stop M t xs 0 0 l k) (precursor-is M t xs s (suc l) k)
-
-  pub key-precursor-rank : (l : ℕ) → l < M → precursorRank M t xs l ≡ last (suc l) (take (smaller t xs) xs)
-  key-precursor-rank l k = precursor-stop M t xs 0 0 l k ∙ stop-is M t xs s (suc l) k
 
   -- "found with index r, or missing with place r, r being the number of smaller keys"
   pub key-place : placeOf (keyWalk M t xs) ≡ smaller t xs

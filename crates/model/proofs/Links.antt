@@ -6,7 +6,7 @@ use mathlib.Core.List.{List, [], _∷_, _++_, append-nil}
 use lib.ListN.{length, take, drop, getD, set, take-append-drop}
 use lib.Seq.{lt-length-set, set-set, set-comm, set-getD, getD-set-same, getD-set-other}
 use native.Mathlib.Omega.{arith}
-use borrow.Author.Tests.{le-leb, lt-leb}
+use borrow.Author.Tests.{le-leb}
 use Rattle.model.specs.Arena.{State, listOf}
 use Rattle.model.specs.Calls.{doSplit, doAppend}
 use Rattle.model.specs.Links.{further, distance, target}
@@ -46,18 +46,6 @@ target-append h (y ∷ ys) bb e = elim (test h (y .height)) [
   | hit f p ↦ absurd (omega (arith, rw f at e))
   | miss f p ↦ rw f (target-append h ys bb (further-zero (distance h ys) (rw f at e)))
 ]
-
--- a spanning link grows by one where a lower node is put in; the node's own stage stops at it
-pub distance-insert-low : (h : ℕ) (n : Node) (aa bb : List Node) → n .height < h → distance h aa ≡ 0 → distance h (aa ++ n ∷ bb) ≡ further (distance h (aa ++ bb))
-distance-insert-low h n aa bb l e =
-    rw (distance-append h aa (n ∷ bb), distance-append h aa bb, e, lt-leb h (n .height) l) (bumped (length aa) (distance h bb))
-  where
-    bumped : (k d : ℕ) → past k (further d) ≡ further (past k d)
-    bumped k zero = refl
-    bumped k (suc d) = omega arith
-
-pub distance-insert-high : (h : ℕ) (n : Node) (aa bb : List Node) → h ≤ n .height → distance h aa ≡ 0 → distance h (aa ++ n ∷ bb) ≡ suc (length aa)
-distance-insert-high h n aa bb l e = rw (distance-append h aa (n ∷ bb), e, le-leb h (n .height) l) (omega arith)
 
 -- ---- an append undoes a split ----
 last-first : (aa : List Node) (b : Node) (bb : List Node) → Sorted (aa ++ b ∷ bb) → lastKey aa ≤ b .key

@@ -11,7 +11,7 @@ use native.Mathlib.Nat.{not-suc-le-zero, add-zero, zero-add}
 use native.Mathlib.Omega.{arith}
 use borrow.Author.Tests.{le-leb}
 use Rattle.model.specs.Arena.{nextColumn, toColumn, State, nodeLinks, nodeWords, headWords, firstSlot, listOf, slots-of}
-use Rattle.model.specs.Links.{further, target, distance, linkWords, linkOf, absentLink}
+use Rattle.model.specs.Links.{target, distance, linkWords, linkOf, absentLink}
 use Rattle.model.specs.Nodes.{Node}
 use Rattle.model.specs.Passes.{timesAll, Sound}
 use Rattle.model.specs.Walks.{last}
