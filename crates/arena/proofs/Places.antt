@@ -29,10 +29,11 @@ module _ (S : State) (v : Sound S) (a : ℕ) (l : a < length (S .lists)) where
       let xs = listOf S a in
       let y = at xs i in
       let e = split-at xs i (node N 0 0) k in
-      let g = rw e at (timesAll-ge (y .slot) (S .lists) a) in
-      placed S v (y .slot) (omega (arith, timesAll-ge (y .slot) (S .lists) a, subst (λ (t : List Node). 1 ≤ times (y .slot) t) (sym e) (times-mid (take i xs) y (drop (suc i) xs)))) .1
+      let once : 1 ≤ times (y .slot) xs = subst (λ (t : List Node). 1 ≤ times (y .slot) t) (sym e) (times-mid (take i xs) y (drop (suc i) xs)) in
+      placed S v (y .slot) (omega (arith, timesAll-ge (y .slot) (S .lists) a, once)) .1
 
-  pub node-record : (i : ℕ) → i < length (listOf S a) → recordAt (S .levels) (encode S) (at (listOf S a) i .slot) ≡ nodeWords (S .levels) (at (listOf S a) i) (drop (suc i) (listOf S a))
+  pub node-record : (i : ℕ) → i < length (listOf S a)
+      → recordAt (S .levels) (encode S) (at (listOf S a) i .slot) ≡ nodeWords (S .levels) (at (listOf S a) i) (drop (suc i) (listOf S a))
   node-record i k = record-node S v a (take i (listOf S a)) (at (listOf S a) i) (drop (suc i) (listOf S a)) l (split-at (listOf S a) i (node N 0 0) k)
 
   owner-record : (r : ℕ) → r ≤ length (listOf S a)

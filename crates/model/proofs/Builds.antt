@@ -53,7 +53,8 @@ pub record Reads-as (S : State) (w : List ℕ) : Type 0 where
   pub size : length w ≡ 8 + (length (S .lists) + S .room) * (width (S .levels))
   pub front : take 8 w ≡ header S
   pub heads : (a : ℕ) → a < length (S .lists) → recordAt (S .levels) w a ≡ headWords (S .levels) (listOf S a)
-  pub in-a-list : (a : ℕ) (aa : List Node) (y : Node) (ys : List Node) → a < length (S .lists) → listOf S a ≡ aa ++ y ∷ ys → recordAt (S .levels) w (y .slot) ≡ nodeWords (S .levels) y ys
+  pub in-a-list : (a : ℕ) (aa : List Node) (y : Node) (ys : List Node) → a < length (S .lists) → listOf S a ≡ aa ++ y ∷ ys
+      → recordAt (S .levels) w (y .slot) ≡ nodeWords (S .levels) y ys
   pub on-free : (gs : List ℕ) (f : ℕ) (fs : List ℕ) → S .free ≡ gs ++ f ∷ fs → recordAt (S .levels) w f ≡ freeWords (S .levels) fs
 
 records-are : (S : State) → Sound S → (w : List ℕ) → Reads-as S w → (s : ℕ) → s < length (S .lists) + S .room → recordAt (S .levels) w s ≡ recordOf S s

@@ -15,7 +15,8 @@ use Rattle.model.specs.Nodes.{Node, node, Sorted, Low}
 use Rattle.model.specs.Passes.{decode, nodes, times, timesAll, timesFree, Sound, Passes, Chained, Clauses}
 use Rattle.model.proofs.Builds.{Reads-as, words-are}
 use Rattle.model.proofs.Chained.{stands, stands-free, chain-out, free-out, none-all, each-all, absent-at, chained-none, chained-more}
-use Rattle.model.proofs.Columns.{cell-record, length-encode, every-column, link-field, link-is, record-is, front-words, first-chain, first-free, length-chain, length-free, nodes-are, lists-are}
+use Rattle.model.proofs.Columns.{cell-record, length-encode, every-column, link-field, link-is, record-is, front-words}
+use Rattle.model.proofs.Columns.{first-chain, first-free, length-chain, length-free, nodes-are, lists-are}
 use Rattle.model.proofs.Keeps.{each-get}
 use Rattle.model.proofs.Owners.{link-column}
 use Rattle.model.proofs.Records.{length-links, length-absent, rec-encode, head-words, record-node, record-free, free-slot, placed, times-mid, timesAll-ge}
@@ -57,7 +58,8 @@ module _ (w : List ℕ) (c : Clauses w) where
       let t : leb (suc i) M ≡ true = le-leb (suc i) M k in
       read-field a i j q (c .head-links a l i k .link) ∙ sym (link-column M i j k q .head xs ∙ (rw t refl)))
 
-  node-columns : (a : ℕ) (aa : List Node) (y : Node) (ys : List Node) → a < L → nodes w a ≡ aa ++ y ∷ ys → (k : ℕ) → k < width M → cellAt M w (y .slot) k ≡ getD (nodeWords M y ys) k 0
+  node-columns : (a : ℕ) (aa : List Node) (y : Node) (ys : List Node) → a < L → nodes w a ≡ aa ++ y ∷ ys → (k : ℕ) → k < width M
+      → cellAt M w (y .slot) k ≡ getD (nodeWords M y ys) k 0
   unfolding L M C
   node-columns a aa y ys l e =
       let v = stands L M C w (cellAt M w a 0) (cellAt M w a 2) aa y ys (c .chains a l) (sym (nodes-are w a l) ∙ e) in

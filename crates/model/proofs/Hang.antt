@@ -132,22 +132,24 @@ module _ {S T : State} {a : ℕ} {Out : ℕ → Type 0} {A X Y : List Node} (H :
       (keeps-head : (Z : List Node) → a ≢ P → qh (A ++ Z) ≡ qh A) where
     pub agree : (s : ℕ) → s < slots-of S → s ≢ P → ¬ Out s → getD (recordOf T s) c 0 ≡ getD (recordOf S s) c 0
     agree s l np nz = elim (H .rest s l nz) [
-      | inr q ↦ ap (λ (R : List ℕ). getD R c 0) q
+      | inr q ↦ ap word q
       | inl i ↦ elim i [
         | its-head q ↦
             let nq : a ≢ P = λ z. np (q ∙ z) in
-            let x : getD (recordOf T a) c 0 ≡ qh (A ++ Y)
-            = ap (λ (R : List ℕ). getD R c 0) (head-of T (H .sound-T) a in-T A Y (H .is-T)) ∙ ap (λ (m : ℕ). getD (headWords m (A ++ Y)) c 0) (sym (H .levels)) ∙ hd (A ++ Y) in
-            let z : getD (recordOf S a) c 0 ≡ qh (A ++ X) = ap (λ (R : List ℕ). getD R c 0) (head-of S (H .sound-S) a (H .list) A X (H .is-S)) ∙ hd (A ++ X) in
-            subst (λ (k : ℕ). getD (recordOf T k) c 0 ≡ getD (recordOf S k) c 0) (sym q) (x ∙ keeps-head Y nq ∙ sym (z ∙ keeps-head X nq))
+            let in-S = ap word (head-of S (H .sound-S) a (H .list) A X (H .is-S)) ∙ hd (A ++ X) ∙ keeps-head X nq in
+            let in-T = ap word (head-of T (H .sound-T) a in-T A Y (H .is-T) ∙ ap (λ (m : ℕ). headWords m (A ++ Y)) (sym (H .levels))) ∙ hd (A ++ Y) ∙ keeps-head Y nq in
+            subst (λ (k : ℕ). word (recordOf T k) ≡ word (recordOf S k)) (sym q) (in-T ∙ sym in-S)
         | its-node aa y vs w q ↦
             let nq : y .slot ≢ P = λ z. np (sym q ∙ z) in
-            let x : getD (recordOf T (y .slot)) c 0 ≡ qn y (vs ++ Y)
-            = ap (λ (R : List ℕ). getD R c 0) (node-of T (H .sound-T) a in-T A Y (H .is-T) aa y vs w) ∙ ap (λ (m : ℕ). getD (nodeWords m y (vs ++ Y)) c 0) (sym (H .levels)) ∙ nd y (vs ++ Y) in
-            let z : getD (recordOf S (y .slot)) c 0 ≡ qn y (vs ++ X) = ap (λ (R : List ℕ). getD R c 0) (node-of S (H .sound-S) a (H .list) A X (H .is-S) aa y vs w) ∙ nd y (vs ++ X) in
-            subst (λ (k : ℕ). getD (recordOf T k) c 0 ≡ getD (recordOf S k) c 0) q (x ∙ keeps Y aa y vs w nq ∙ sym (z ∙ keeps X aa y vs w nq))
+            let in-S = ap word (node-of S (H .sound-S) a (H .list) A X (H .is-S) aa y vs w) ∙ nd y (vs ++ X) ∙ keeps X aa y vs w nq in
+            let in-T = ap word (node-of T (H .sound-T) a in-T A Y (H .is-T) aa y vs w ∙ ap (λ (m : ℕ). nodeWords m y (vs ++ Y)) (sym (H .levels)))
+            ∙ nd y (vs ++ Y) ∙ keeps Y aa y vs w nq in
+            subst (λ (k : ℕ). word (recordOf T k) ≡ word (recordOf S k)) q (in-T ∙ sym in-S)
       ]
     ]
+      where
+        word : List ℕ → ℕ
+        word R = getD R c 0
 
   -- of the columns 0, 1 and 3 the heads' change alone; of column 1 nothing
   pub same-0 : (s : ℕ) → s < slots-of S → s ≢ a → ¬ Out s → getD (recordOf T s) 0 0 ≡ getD (recordOf S s) 0 0

@@ -93,14 +93,16 @@ module _ (S : State) (v : Sound S) (a : ℕ) (la : a < length (S .lists)) where
 
   pub sound-truncate : (n : ℕ) → Sound (doTruncate S a n)
   sound-truncate n =
-      sound-put S a (take n (listOf S a)) (freed (drop n (listOf S a)) (S .free)) la v (sorted-cut n (listOf S a) (sorted-list S v a) .0) (low-cut (S .levels) n (listOf S a) (low-list S v a) .0)
+      sound-put S a (take n (listOf S a)) (freed (drop n (listOf S a)) (S .free)) la v (sorted-cut n (listOf S a) (sorted-list S v a) .0)
+      (low-cut (S .levels) n (listOf S a) (low-list S v a) .0)
       (λ s. omega (arith, times-freed s (drop n (listOf S a)) (S .free), times-cut s n (listOf S a)))
 
   pub sound-level : Sound (doLevel S a)
   sound-level =
       let M = S .levels in
       let xs = levelFrom M 1 (listOf S a) in
-      sound-put S a xs (S .free) la v (sorted-level M 1 (listOf S a) (sorted-list S v a)) (low-levelled M 1 xs (level-levelled M 1 (listOf S a))) (λ s. rw (times-level M s 1 (listOf S a)) refl)
+      sound-put S a xs (S .free) la v (sorted-level M 1 (listOf S a) (sorted-list S v a)) (low-levelled M 1 xs (level-levelled M 1 (listOf S a)))
+      (λ s. rw (times-level M s 1 (listOf S a)) refl)
 
   module _ (b : ℕ) (lb : b < length (S .lists)) (ne : a ≢ b) where
     pub sound-split : (i : ℕ) → listOf S b ≡ [] → Sound (doSplit S a b i)

@@ -77,5 +77,6 @@ append-comm aa bb s r = keys-unique (append aa bb) (append bb aa) (sorted-append
 
 pub append-assoc-keys : (aa bb cc : List Node) → Sorted aa → Sorted bb → Sorted cc → keys (append (append aa bb) cc) ≡ keys (append aa (append bb cc))
 append-assoc-keys aa bb cc s r u =
-    keys-unique (append (append aa bb) cc) (append aa (append bb cc)) (sorted-append (append aa bb) cc (sorted-append aa bb s r) u) (sorted-append aa (append bb cc) s (sorted-append bb cc r u))
+    keys-unique (append (append aa bb) cc) (append aa (append bb cc)) (sorted-append (append aa bb) cc (sorted-append aa bb s r) u)
+    (sorted-append aa (append bb cc) s (sorted-append bb cc r u))
     (λ k. omega (arith, often-join k (append aa bb) cc, often-join k aa bb, often-join k aa (append bb cc), often-join k bb cc))

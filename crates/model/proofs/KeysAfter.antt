@@ -69,7 +69,8 @@ module _ (S : State) (v : Sound S) (a : ℕ) where
   inserted k h [] l z = absurd (omega arith)
   inserted k h (f ∷ fs) l z =
       let n = node f k h in
-      ap (λ (xs : List Node). keys xs) (getD-set-same (S .lists) a (insert n (listOf S a)) [] l) ∙ keys-insert (smaller k (listOf S a)) n (listOf S a) ∙ (rw (first-not-below k) refl)
+      ap (λ (xs : List Node). keys xs) (getD-set-same (S .lists) a (insert n (listOf S a)) [] l) ∙ keys-insert (smaller k (listOf S a)) n (listOf S a)
+      ∙ (rw (first-not-below k) refl)
 
   -- "stands before the first key not below its own, so before all equal keys, or last if there is no such key"
   pub keys-inserted : (k h : ℕ) → Allowed S (insertKey a k h) → keysAfter S (insertKey a k h) a ≡ take (before k) now ++ k ∷ drop (before k) now

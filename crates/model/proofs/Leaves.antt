@@ -47,7 +47,9 @@ first-freed y [] fs = refl
 first-freed y (z ∷ ys) fs = first-freed z ys (y .slot ∷ fs)
 
 pub truncate-frees : (S : State) (a n : ℕ) → Allowed S (truncate a n) → n < length (listOf S a) → firstFree (resultOf S (truncate a n) .free) ≡ lastSlot (listOf S a)
-truncate-frees S a n p l = ap (λ (T : State). firstFree (T .free)) (accepted-result S (truncate a n) p) ∙ some-freed (drop n (listOf S a)) (omega (arith, length-drop n (listOf S a))) ∙ last-drop (listOf S a) n l
+truncate-frees S a n p l =
+    ap (λ (T : State). firstFree (T .free)) (accepted-result S (truncate a n) p) ∙ some-freed (drop n (listOf S a)) (omega (arith, length-drop n (listOf S a)))
+    ∙ last-drop (listOf S a) n l
   where
     some-freed : (ys : List Node) → 0 < length ys → firstFree (freed ys (S .free)) ≡ lastSlot ys
     some-freed [] z = absurd (omega arith)

@@ -155,7 +155,8 @@ times-join : (s : ℕ) (aa bb : List Node) → times s (append aa bb) ≡ times 
 times-join s aa [] = omega arith
 times-join s [] (b ∷ bb) = omega arith
 times-join s (a ∷ aa) (b ∷ bb) =
-    by-case (λ cs. times s cs ≡ times s (a ∷ aa) + times s (b ∷ bb)) a aa b bb (λ e. times-append s (a ∷ aa) (b ∷ bb)) (λ e. omega (arith, times-append s (b ∷ bb) (a ∷ aa))) (times-merge s (b ∷ bb) (a ∷ aa))
+    by-case (λ cs. times s cs ≡ times s (a ∷ aa) + times s (b ∷ bb)) a aa b bb (λ e. times-append s (a ∷ aa) (b ∷ bb)) (λ e. omega (arith, times-append s (b ∷ bb) (a ∷ aa)))
+    (times-merge s (b ∷ bb) (a ∷ aa))
 
 -- what an append makes: in order, no higher, and in the same slots
 pub record Made (M : ℕ) (aa bb cc : List Node) : Type 0 where

@@ -7,7 +7,8 @@ use lib.Seq.{take-at, getD-at, drop-append-add, append-snoc}
 use native.Mathlib.Nat.{zero-add, add-zero, suc-add, add-suc, not-suc-le-zero, zero-mul}
 use native.Mathlib.Omega.{arith}
 use borrow.Author.Tests.{lt-ltb, le-ltb, eq-eqb}
-use Rattle.model.specs.Arena.{width, State, nodeLinks, nodeWords, headWords, freeWords, absentLinks, firstSlot, firstFree, inList, inLists, inFree, recordOf, records, header, encode}
+use Rattle.model.specs.Arena.{width, State, nodeLinks, nodeWords, headWords, freeWords, absentLinks, firstSlot}
+use Rattle.model.specs.Arena.{firstFree, inList, inLists, inFree, recordOf, records, header, encode}
 use Rattle.model.specs.Cells.{recordAt}
 use Rattle.model.specs.Links.{linkWords}
 use Rattle.model.specs.Nodes.{Node}
@@ -114,7 +115,8 @@ in-free-hit M (g ∷ gs) f fs l = elim (same? g f) [
 
 module _ (S : State) (v : Sound S) where
   -- a slot that stands somewhere is a node slot, and stands there alone
-  pub placed : (s : ℕ) → 1 ≤ timesAll s (S .lists) + timesFree s (S .free) → (length (S .lists) ≤ s) × (s < length (S .lists) + S .room) × (timesAll s (S .lists) + timesFree s (S .free) ≡ 1)
+  pub placed : (s : ℕ) → 1 ≤ timesAll s (S .lists) + timesFree s (S .free)
+      → (length (S .lists) ≤ s) × (s < length (S .lists) + S .room) × (timesAll s (S .lists) + timesFree s (S .free) ≡ 1)
   placed s h = elim (test (suc s) (length (S .lists))) [
     | hit e p ↦ absurd (omega (arith, v .no-head s p))
     | miss e p ↦ elim (test (suc s) (length (S .lists) + S .room)) [
@@ -143,7 +145,8 @@ module _ (S : State) (v : Sound S) where
       → recordAt (S .levels) (encode S) (y .slot) ≡ nodeWords (S .levels) y ys
   record-node a aa y ys l e = rec-encode S (y .slot) (slot-of a aa y ys e .1) ∙ node-words a aa y ys l e
 
-  pub free-slot : (gs : List ℕ) (f : ℕ) (fs : List ℕ) → S .free ≡ gs ++ f ∷ fs → (length (S .lists) ≤ f) × (f < length (S .lists) + S .room) × (timesAll f (S .lists) + timesFree f (S .free) ≡ 1)
+  pub free-slot : (gs : List ℕ) (f : ℕ) (fs : List ℕ) → S .free ≡ gs ++ f ∷ fs
+      → (length (S .lists) ≤ f) × (f < length (S .lists) + S .room) × (timesAll f (S .lists) + timesFree f (S .free) ≡ 1)
   free-slot gs f fs e =
       let m = free-mid gs f fs in
       let g = rw (← e) at m in
@@ -176,7 +179,8 @@ module _ (S : State) (v : Sound S) where
       let g : getD (S .lists) a [] ≡ ys = rw e (getD-at xss ys yss [] a l) in
       let h : recordAt (S .levels) (encode S) a ≡ headWords (S .levels) ys
       = rec-encode S a (omega arith) ∙ (rw (lt-ltb a (length (S .lists)) n, g) refl) in
-      rw h (ap₂ (λ (x : List Node) (t : List (List Node)). x ∷ t) (chain-back a [] ys n g) (lists-back (suc a) (xss ++ ys ∷ []) yss (rw length-append (omega arith)) (e ∙ sym (append-snoc xss ys yss))))
+      let rest = lists-back (suc a) (xss ++ ys ∷ []) yss (rw length-append (omega arith)) (e ∙ sym (append-snoc xss ys yss)) in
+      rw h (ap₂ (λ (x : List Node) (t : List (List Node)). x ∷ t) (chain-back a [] ys n g) rest)
 
 pub decode-encode : (S : State) → Sound S → decode (encode S) ≡ S
 decode-encode S v =

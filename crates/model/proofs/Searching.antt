@@ -42,7 +42,8 @@ along-is zero l t xs r m k = let z = none-left (suc l) t (drop r xs) k in same-s
 along-is (suc n) l t xs r m k = look (distance (suc l) (drop r xs)) refl (λ d. along-is n l t xs (r + d) (m + 1))
   where
     look : (d : ℕ) → distance (suc l) (drop r xs) ≡ d
-        → ((e : ℕ) → length (drop (r + e) xs) ≤ n → along n l t xs (stand (r + e) (m + 1)) ≡ stand (r + e + go (suc l) t (drop (r + e) xs)) (m + 1 + asks (suc l) t (drop (r + e) xs)))
+        → ((e : ℕ) → length (drop (r + e) xs) ≤ n
+        → along n l t xs (stand (r + e) (m + 1)) ≡ stand (r + e + go (suc l) t (drop (r + e) xs)) (m + 1 + asks (suc l) t (drop (r + e) xs)))
         → along (suc n) l t xs (stand r m) ≡ stand (r + go (suc l) t (drop r xs)) (m + asks (suc l) t (drop r xs))
     look zero e ih =
         let z = absent-step (suc l) t (drop r xs) e in

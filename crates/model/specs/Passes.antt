@@ -7,7 +7,8 @@ use lib.Dec.{eqb}
 use lib.ListN.{length, getD}
 use Rattle.model.specs.Nodes.{Node, node, N, Sorted, Low}
 use Rattle.model.specs.Links.{linkOf, absentLink}
-use Rattle.model.specs.Arena.{State, mark, version, markWord, versionWord, listsWord, levelsWord, roomWord, firstFreeWord, freeWord, zeroWord, headerWords, countColumn, keyColumn, heightColumn, nextColumn, lastColumn, width, lastSlot, encode, listOf}
+use Rattle.model.specs.Arena.{State, mark, version, markWord, versionWord, listsWord, levelsWord, roomWord, firstFreeWord, freeWord, zeroWord}
+use Rattle.model.specs.Arena.{headerWords, countColumn, keyColumn, heightColumn, nextColumn, lastColumn, width, lastSlot, encode, listOf}
 use Rattle.model.specs.Cells.{recordAt, cellAt, linkAt}
 
 -- ---- the model that words hold ----
@@ -120,7 +121,8 @@ pub record ClausesOf (L M C : ℕ) (w : List ℕ) : Type 0 where
   pub head-height : (a : ℕ) → a < L → cellAt M w a heightColumn ≡ M
   pub node-height : (a : ℕ) → a < L → Low M (nodes w a)
   pub node-zero : (a : ℕ) (aa : List Node) (y : Node) (ys : List Node) → a < L → nodes w a ≡ aa ++ y ∷ ys → cellAt M w (y .slot) lastColumn ≡ 0
-  pub free-form : (gs : List ℕ) (f : ℕ) (fs : List ℕ) → decode w .free ≡ gs ++ f ∷ fs → (cellAt M w f keyColumn ≡ 0) × (cellAt M w f heightColumn ≡ N) × (cellAt M w f lastColumn ≡ 0)
+  pub free-form : (gs : List ℕ) (f : ℕ) (fs : List ℕ) → decode w .free ≡ gs ++ f ∷ fs
+      → (cellAt M w f keyColumn ≡ 0) × (cellAt M w f heightColumn ≡ N) × (cellAt M w f lastColumn ≡ 0)
   pub free-links : (gs : List ℕ) (f : ℕ) (fs : List ℕ) → decode w .free ≡ gs ++ f ∷ fs → (l : ℕ) → l < M → Absent M w f l
   -- "the link at level l of a head, or of a node of height above l, goes to the next node of height above l with the difference of ranks as
   -- distance, or is absent if there is none"
