@@ -1,10 +1,7 @@
--- `arena::layout::place` meets its contract.
--- A slot is a u32 and a record has at most 36 words, so the product fits a usize.
-use Prim.Native.Nat.{_≤_}
-use native.Mathlib.Nat.{mul-le-mul-left}
+-- `arena::layout::base_of` meets its contract: a slot is a u32 and a record is narrow, so the product fits a usize.
 use native.Mathlib.Omega.{arith}
-use Rattle.model.specs.Arena.{width}
 use borrow.Author.Needs.{needs}
+use Rattle.arena.proofs.Lengths.{narrow}
 use Rattle.arena.proofs.layout.base_of.Statement.{statement}
 use Rattle.arena.proofs.layout.base_of.Tie as tie
 
@@ -16,15 +13,13 @@ width-requires c κs = search needs
 
 mul-result : tie.Need-mul-result
 mul-result c =
-    let (start, after-wide) : tie.Start × tie.After-wide = search in
-    let l : width (start .args .m) ≤ 36 = omega (arith, start .pre) in
-    rw (after-wide .wide .ensures, c .width .ensures) (omega (arith, mul-le-mul-left (start .args .s .0) l))
+    let (start, s) : tie.Start × tie.After-wide = search in
+    rw (s .wide .ensures, c .width .ensures) (omega (arith, narrow (start .args .s .0) (start .pre)))
 
 add-result : tie.Need-add-result
 add-result c =
-    let (start, after-wide) : tie.Start × tie.After-wide = search in
-    let l : width (start .args .m) ≤ 36 = omega (arith, start .pre) in
-    rw (after-wide .wide .ensures, c .width .ensures) (omega (arith, mul-le-mul-left (start .args .s .0) l))
+    let (start, s) : tie.Start × tie.After-wide = search in
+    rw (s .wide .ensures, c .width .ensures) (omega (arith, narrow (start .args .s .0) (start .pre)))
 
 returns : tie.Need-returns
 returns c = cc

@@ -19,13 +19,13 @@ width-requires c κs = search needs
 
 mul-result : tie.Need-mul-result
 mul-result c =
-    let (start, after-wide, after-wide2) : tie.Start × tie.After-wide × tie.After-wide2 = search in
-    rw (after-wide .wide .ensures, c .width .ensures, after-wide2 .wide2 .ensures) (omega (arith, few _ _ _ (start .pre)))
+    let (start, slots, levels) : tie.Start × tie.After-wide × tie.After-wide2 = search in
+    rw (slots .wide .ensures, c .width .ensures, levels .wide2 .ensures) (omega (arith, few _ _ _ (start .pre)))
 
 add-result : tie.Need-add-result
 add-result c =
-    let (start, after-wide, after-wide2) : tie.Start × tie.After-wide × tie.After-wide2 = search in
-    rw (after-wide .wide .ensures, c .width .ensures, after-wide2 .wide2 .ensures) (omega (arith, few _ _ _ (start .pre)))
+    let (start, slots, levels) : tie.Start × tie.After-wide × tie.After-wide2 = search in
+    rw (slots .wide .ensures, c .width .ensures, levels .wide2 .ensures) (omega (arith, few _ _ _ (start .pre)))
 
 returns : tie.Need-returns
 returns c = cc

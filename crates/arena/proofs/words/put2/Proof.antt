@@ -2,23 +2,16 @@
 use borrow.Author.Needs.{needs}
 use Rattle.arena.proofs.words.put2.Statement.{statement}
 use Rattle.arena.proofs.words.put2.Tie as tie
-use Rattle.arena.proofs.words.put2.Reads as reads
-use Rattle.arena.proofs.words.put2.Lts as lts
-use Rattle.arena.proofs.words.put.Reads as put-reads
 
--- src/lib.rt:84:5
 put-requires : tie.Need-put-requires
 put-requires c κs = search needs
 
--- src/lib.rt:85:5
 put-requires-2 : tie.Need-put-requires-2
 put-requires-2 c κs = search needs
 
--- src/lib.rt:80:1
 same-length : tie.Need-same-length
 same-length c = search needs
 
--- src/lib.rt:80:1
 returns : tie.Need-returns
 returns c = cc
 
