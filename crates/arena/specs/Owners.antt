@@ -1,6 +1,7 @@
 -- Where a walk stands in words that pass, and the precursors that it notes. Rests on model's specs.
 use Prim.Native.Nat.{ℕ, suc, _≤_, _<_}
 use mathlib.Core.Path.{_≡_}
+use mathlib.Core.Logic.{_≢_}
 use mathlib.Core.List.{List}
 use lib.ListN.{length, take, getD}
 use Rattle.model.specs.Nodes.{slotAt, heightAt}
@@ -13,6 +14,12 @@ pub record Listed (w : List ℕ) (m a : ℕ) : Type 0 where
   pub passes : Passes w
   pub levels : m ≡ decode w .levels
   pub list : a < length (decode w .lists)
+
+-- The same of two lists, a and b, that differ.
+pub record TwoLists (w : List ℕ) (m a b : ℕ) : Type 0 where
+  pub first : Listed w m a
+  pub second : Listed w m b
+  pub apart : a ≢ b
 
 -- The node at index i of list a is there, so that it can go.
 pub record Leaves (w : List ℕ) (m a i : ℕ) : Type 0 where

@@ -48,11 +48,6 @@ pub const FAR: usize = 5;
 
 pub const LINK: usize = 2;
 
-// The same by stage, which is the level and one: STAGE_TO + LINK * (l + 1) is TO + LINK * l.
-pub const STAGE_TO: usize = TO - LINK;
-
-pub const STAGE_FAR: usize = FAR - LINK;
-
 // The number of words of a record, in an arena of m levels.
 pub fn width(m: usize) -> usize
     requires { ⌜ m ≤ 16 ⌝ }

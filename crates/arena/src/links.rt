@@ -1,6 +1,6 @@
 // A link of a record, read and stored whole: its words are named here and nowhere else.
 ghost use mathlib.Core.Path.{_≡_};
-ghost use Prim.Native.Nat.{_+_, _<_};
+ghost use Prim.Native.Nat.{_+_, _-_, _<_};
 ghost use lib.ListN.{length, getD};
 ghost use Rattle.model.specs.Arena.{toColumn, farColumn};
 ghost use Rattle.model.specs.Cells.{linkAt};
@@ -39,19 +39,19 @@ impl Link {
     }
 }
 
-// Of the record that begins at word `base`: where its link of level l goes, and how far that is.
-pub fn target_at(w: &[u32], base: usize, l: usize) -> Slot
-    requires { ⌜ base + toColumn l < length (now w) ⌝ }
-    ensures { λ r. ⌜ r .0 ≡ getD (now (w .entry)) (base + toColumn l) 0 ⌝ }
+// Of the record that begins at word `base`: where its link of a stage goes, and how far that is. A stage is the level and one.
+pub fn target_in(w: &[u32], base: usize, stage: usize) -> Slot
+    requires { ⌜ (0 < stage) × (base + toColumn (stage - 1) < length (now w)) ⌝ }
+    ensures { λ r. ⌜ r .0 ≡ getD (now (w .entry)) (base + toColumn (stage - 1)) 0 ⌝ }
 {
-    Slot(w[base + (TO + LINK * l)])
+    Slot(w[base + (TO - LINK) + LINK * stage])
 }
 
-pub fn distance_at(w: &[u32], base: usize, l: usize) -> u32
-    requires { ⌜ base + farColumn l < length (now w) ⌝ }
-    ensures { λ r. ⌜ r ≡ getD (now (w .entry)) (base + farColumn l) 0 ⌝ }
+pub fn distance_in(w: &[u32], base: usize, stage: usize) -> u32
+    requires { ⌜ (0 < stage) × (base + farColumn (stage - 1) < length (now w)) ⌝ }
+    ensures { λ r. ⌜ r ≡ getD (now (w .entry)) (base + farColumn (stage - 1)) 0 ⌝ }
 {
-    w[base + (FAR + LINK * l)]
+    w[base + (FAR - LINK) + LINK * stage]
 }
 
 // The link of level l of slot s.
@@ -61,8 +61,8 @@ pub fn link_at(w: &[u32], m: usize, s: Slot, l: usize) -> Link
 {
     let base = base_of(m, s);
     Link {
-        target: target_at(w, base, l),
-        distance: distance_at(w, base, l),
+        target: Slot(w[base + (TO + LINK * l)]),
+        distance: w[base + (FAR + LINK * l)],
     }
 }
 

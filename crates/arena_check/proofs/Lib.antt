@@ -1,13 +1,11 @@
-pub mod Sizes
-pub mod Levels
-pub mod Free
-pub mod Walking
-pub mod Lasts
-pub mod Wholes
-pub mod Dues
-pub mod Formed
-pub mod Listing
-pub mod Freeing
-pub mod Slots
+-- The laws of the check, by theme.
+
+-- the tests, one by one
+pub mod HeadTests
+pub mod FreeWalk
+pub mod WholeTests
+-- what they show, in the words of document 01's clauses
+pub mod FreeClauses
+pub mod SlotLists
 pub mod Once
-pub mod Passing
+pub mod WholePasses

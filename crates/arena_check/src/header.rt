@@ -1,13 +1,12 @@
 // The header on any words: its numbers, and the counts that the heads add to it.
 ghost use mathlib.Core.Path.{_≡_};
 ghost use Prim.Native.Nat.{_+_};
-ghost use lib.ListN.{getD};
-ghost use Rattle.model.specs.Arena.{freeWord};
 ghost use Rattle.arena.specs.Decides.{Decides};
-ghost use Rattle.arena_check.specs.Sizes.{dimsOf, Shape, Headed, lengths};
-use super::Dims;
-use super::records::word;
+ghost use Rattle.link_check.specs.Shape.{Shape};
+ghost use Rattle.arena_check.specs.Headed.{dimsOf, Headed, freeCount, lengths};
 use arena::Slot;
+use link_check::Dims;
+use link_check::cell_of;
 
 // Whether the words have the header of an arena of their length.
 pub fn header_ok(w: &[u32]) -> bool
@@ -47,12 +46,12 @@ pub fn dims_of(w: &[u32]) -> Dims
 // The number of free slots and the lengths of all lists, as the header and the heads say them, in all.
 pub fn counted(w: &[u32], d: Dims) -> usize
     requires { ⌜ Shape (now w) d ⌝ }
-    ensures { λ r. ⌜ r ≡ getD (now (w .entry)) freeWord 0 + lengths (d .levels) (now (w .entry)) (d .lists) ⌝ }
+    ensures { λ r. ⌜ r ≡ freeCount (now (w .entry)) + lengths (now (w .entry)) d (d .lists) ⌝ }
 {
     let mut sum = arena::wide(w[arena::FREE_WORD]);
     let mut a: u32 = 0;
     while a < d.lists {
-        sum += arena::wide(word(w, d, Slot(a), arena::COUNT));
+        sum += arena::wide(cell_of(w, d, Slot(a), arena::COUNT));
         a += 1;
     }
     sum

@@ -1,22 +1,12 @@
 // The check of document 01: whether any words are an arena that passes. It goes once over the records, by the chains that they
-// make, and needs no memory but locals: docs/CHECK.md says how.
+// make, and needs no memory but locals: docs/CHECK.md says how. One list's walk is list_check's.
 ghost use Rattle.model.specs.Calls.{CheckPromise};
 ghost use Rattle.arena.specs.Decides.{Decides};
 ghost use Rattle.arena_check.specs.Whole.{Whole};
 
+mod free;
 mod header;
 mod heads;
-mod records;
-mod walks;
-
-// The numbers of lists, levels and nodes.
-pub struct Dims {
-    pub lists: u32,
-    pub levels: usize,
-    pub room: u32,
-}
-
-const NONE: u32 = 4294967295;
 
 // Whether the words are whole, in the order in which it is cheap to ask.
 fn whole(w: &[u32]) -> bool
@@ -29,7 +19,7 @@ fn whole(w: &[u32]) -> bool
     if header::counted(w, d) != arena::wide(d.room) {
         return false;
     }
-    if records::free_ok(w, d) {} else {
+    if free::free_ok(w, d) {} else {
         return false;
     }
     if heads::lists_ok(w, d) {

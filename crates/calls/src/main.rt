@@ -1,8 +1,7 @@
 // Reads a call script (docs/CALLS.md) on standard input and writes one answer line for each call.
-mod answers;
 mod items;
+mod lines;
 mod names;
-mod slice;
 
 ghost use Prim.Native.Nat.{_≤_};
 ghost use lib.ListN.{length};
@@ -33,7 +32,7 @@ fn line_end(words: &mut [u32], numbers: &mut [u32], line: Line, len: usize) -> u
         }
         Reading::Comment => len,
         _ => {
-            answers::unknown();
+            script::unknown();
             len
         }
     }

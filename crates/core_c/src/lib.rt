@@ -8,13 +8,12 @@ ghost use Rattle.model.specs.Nodes.{keyAt, smaller};
 ghost use Rattle.model.specs.Arena.{encode};
 ghost use Rattle.model.specs.Calls.{search, removeKey, answerTo, resultOf, doInsert, doRemove, doTruncate, doSplit, doAppend, doLevel};
 ghost use Rattle.model.specs.Passes.{decode, nodes};
-ghost use Rattle.arena.specs.Owners.{Listed, Leaves};
-ghost use Rattle.split_join.specs.Cuts.{Splits};
-ghost use Rattle.structural.specs.Pairs.{Two};
+ghost use Rattle.arena.specs.Owners.{Listed, Leaves, TwoLists};
+ghost use Rattle.split.specs.Splits.{Splits};
 use arena::Index;
 use arena::Slot;
-use insert_remove::Removed;
-use walk::Searched;
+use key_walk::Searched;
+use removal::Removed;
 
 // The index or the place; 0 where the allowance is not enough.
 #[no_mangle]
@@ -22,7 +21,7 @@ pub extern "C" fn core_search(w: &[u32], m: usize, list: u32, key: u32, allowanc
     requires { ⌜ Listed (now w) m list ⌝ }
     ensures { λ r. ⌜ r ≡ answerTo (decode (now (w .entry))) (search list key allowance) .place ⌝ }
 {
-    match walk::search(w, m, Slot(list), key, allowance) {
+    match key_walk::search(w, m, Slot(list), key, allowance) {
         Searched::Found(i, _) => i.0,
         Searched::Missing(i, _) => i.0,
         Searched::Beyond(_) => 0,
@@ -34,7 +33,7 @@ pub extern "C" fn core_read(w: &[u32], m: usize, list: u32, index: u32) -> u32
     requires { ⌜ Listed (now w) m list × (index < length (nodes (now w) list)) ⌝ }
     ensures { λ r. ⌜ r ≡ keyAt (nodes (now (w .entry)) list) index ⌝ }
 {
-    walk::read(w, m, Slot(list), Index(index))
+    rank_walk::read(w, m, Slot(list), Index(index))
 }
 
 #[no_mangle]
@@ -42,7 +41,7 @@ pub extern "C" fn core_insert(w: &mut [u32], m: usize, list: u32, key: u32, heig
     requires { ⌜ Listed (now w) m list × ((height ≤ m) × (0 < length (decode (now w) .free))) ⌝ }
     ensures { λ _. ⌜ now (w .exit) ≡ encode (doInsert (decode (now (w .entry))) list key height) ⌝ }
 {
-    insert_remove::insert(w, m, Slot(list), key, height)
+    insertion::insert(w, m, Slot(list), key, height)
 }
 
 // The key; 0 where there is none such.
@@ -51,7 +50,7 @@ pub extern "C" fn core_remove_key(w: &mut [u32], m: usize, list: u32, key: u32) 
     requires { ⌜ Listed (now w) m list ⌝ }
     ensures { λ r. ⌜ (r ≡ answerTo (decode (now (w .entry))) (removeKey list key) .key) × (now (w .exit) ≡ encode (resultOf (decode (now (w .entry))) (removeKey list key))) ⌝ }
 {
-    match insert_remove::remove_key(w, m, Slot(list), key) {
+    match removal::remove_key(w, m, Slot(list), key) {
         Removed::Key(k) => k,
         Removed::Missing => 0,
     }
@@ -62,7 +61,7 @@ pub extern "C" fn core_remove_at(w: &mut [u32], m: usize, list: u32, index: u32)
     requires { ⌜ Leaves (now w) m list index ⌝ }
     ensures { λ r. ⌜ now (w .exit) ≡ encode (doRemove (decode (now (w .entry))) list index) × (r ≡ keyAt (nodes (now (w .entry)) list) index) ⌝ }
 {
-    insert_remove::remove_at(w, m, Slot(list), Index(index))
+    removal::remove_at(w, m, Slot(list), Index(index))
 }
 
 #[no_mangle]
@@ -70,7 +69,7 @@ pub extern "C" fn core_truncate(w: &mut [u32], m: usize, list: u32, count: u32)
     requires { ⌜ Listed (now w) m list ⌝ }
     ensures { λ _. ⌜ now (w .exit) ≡ encode (doTruncate (decode (now (w .entry))) list count) ⌝ }
 {
-    structural::truncate(w, m, Slot(list), count)
+    truncate::truncate(w, m, Slot(list), count)
 }
 
 #[no_mangle]
@@ -78,23 +77,23 @@ pub extern "C" fn core_split_at(w: &mut [u32], m: usize, from: u32, to: u32, ind
     requires { ⌜ Splits (now w) m from to index ⌝ }
     ensures { λ _. ⌜ now (w .exit) ≡ encode (doSplit (decode (now (w .entry))) from to index) ⌝ }
 {
-    structural::split_at(w, m, Slot(from), Slot(to), Index(index))
+    split::split_at(w, m, Slot(from), Slot(to), Index(index))
 }
 
 #[no_mangle]
 pub extern "C" fn core_split_key(w: &mut [u32], m: usize, from: u32, to: u32, key: u32)
-    requires { ⌜ Two (now w) m from to × (nodes (now w) to ≡ []) ⌝ }
+    requires { ⌜ TwoLists (now w) m from to × (nodes (now w) to ≡ []) ⌝ }
     ensures { λ _. ⌜ now (w .exit) ≡ encode (doSplit (decode (now (w .entry))) from to (smaller key (nodes (now (w .entry)) from))) ⌝ }
 {
-    structural::split_key(w, m, Slot(from), Slot(to), key)
+    split::split_key(w, m, Slot(from), Slot(to), key)
 }
 
 #[no_mangle]
 pub extern "C" fn core_append(w: &mut [u32], m: usize, a: u32, b: u32)
-    requires { ⌜ Two (now w) m a b ⌝ }
+    requires { ⌜ TwoLists (now w) m a b ⌝ }
     ensures { λ _. ⌜ now (w .exit) ≡ encode (doAppend (decode (now (w .entry))) a b) ⌝ }
 {
-    structural::append(w, m, Slot(a), Slot(b))
+    append::append(w, m, Slot(a), Slot(b))
 }
 
 #[no_mangle]

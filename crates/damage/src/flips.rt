@@ -1,12 +1,13 @@
 // Flips of one bit of the sample, and how many of them the check lets pass.
 ghost use Prim.Native.Nat.{_≤_};
+use super::arenas::WORDS;
 use super::arenas::sample;
 use libc::STDOUT_FILENO;
 
 // Whether the sample with bit b of one word flipped passes.
 fn passes(at: usize, b: u32) -> bool {
     let mut w = sample();
-    if at >= 80 {
+    if at >= WORDS {
         return false;
     }
     if b >= 32 {
@@ -46,7 +47,7 @@ fn told(at: usize, n: u32) {
 pub fn over_words() -> u32 {
     let mut total: u32 = 0;
     let mut at: usize = 0;
-    while at < 80 {
+    while at < WORDS {
         let n = over_bits(at);
         told(at, n);
         total += n;

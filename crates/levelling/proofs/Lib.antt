@@ -1,4 +1,5 @@
 pub mod Heights
-pub mod Passing
+pub mod Filling
+pub mod ListReplaced
 pub mod OneNode
-pub mod Whole
+pub mod EveryNode

@@ -1,4 +1,5 @@
--- One node out and in again at another height: the words are those of the model with that height, and the path leads on. Rests on model's Keeps and Composing.
+-- One node out and in again at another height: the words are those of the model with that height, and the path leads on.
+-- Rests on model's Keeps and Composing, and on ListReplaced.
 use Prim.Native.Nat.{ℕ, suc, _+_, _≤_, _<_}
 use mathlib.Core.Path.{_≡_, refl, sym, ap, _∙_, subst}
 use mathlib.Core.List.{List, [], _∷_, _++_, append-assoc}
@@ -11,19 +12,18 @@ use Rattle.model.specs.Lists.{insertAt, removeAt}
 use Rattle.model.specs.Walks.{last}
 use Rattle.model.specs.Arena.{State, firstFree, listOf, putList, encode}
 use Rattle.model.specs.Calls.{doRemove}
-use Rattle.model.specs.Passes.{decode, nodes, Ranges, Sound}
-use Rattle.model.proofs.Builds.{passes-encode}
+use Rattle.model.specs.Passes.{decode, nodes, Sound}
 use Rattle.model.proofs.Composing.{level-step}
 use Rattle.model.proofs.Keeps.{each-get, sound-insert-at, sound-remove}
 use Rattle.model.proofs.Owners.{last-mid}
-use Rattle.model.proofs.Records.{decode-encode}
 use Rattle.model.proofs.Splitting.{slot-take}
 use Rattle.model.proofs.Tests.{hit, miss, test}
 use Rattle.model.proofs.Walk.{last-le}
 use Rattle.arena.specs.Owners.{Listed, Leads, Leaves}
 use Rattle.arena.specs.declared.Path.{Path}
-use Rattle.insert_remove.specs.Changes.{insertedAt, Enters}
-use Rattle.levelling.specs.Turns.{levelledAt, Passed, Relevelled}
+use Rattle.level_links.specs.AtIndex.{insertedAt, CanInsert}
+use Rattle.levelling.specs.NodeByNode.{levelledAt, SteppedOver, Relevelled}
+use Rattle.levelling.proofs.ListReplaced.{leads-kept, decoded, listed-then, nodes-then}
 
 -- the order is that of the keys
 above-swap : (t : ℕ) (aa : List Node) (x y : Node) (bb : List Node) → x .key ≡ y .key → Above t (aa ++ x ∷ bb) → Above t (aa ++ y ∷ bb)
@@ -37,41 +37,6 @@ sorted-swap (a ∷ aa) x y bb e q = (above-swap (a .key) aa x y bb e (q .0), sor
 last-low : (h : ℕ) (aa : List Node) (y : Node) → y .height < h → last h (aa ++ y ∷ []) ≡ last h aa
 last-low h [] y l = rw (lt-leb h (y .height) l) refl
 last-low h (a ∷ aa) y l = rw (last-low h aa y l) refl
-
--- a path leads to an index by the nodes before it alone
-pub leads-kept : {w u : List ℕ} {m a i : ℕ} {p : Path} → Leads w m a i p → take i (nodes u a) ≡ take i (nodes w a) → i ≤ length (nodes w a) → Leads u m a i p
-leads-kept {w} {u} {m} {a} {i} {p} q e l =
-    record {
-      before = record {
-        rank = λ j k. q .before .rank j k ∙ ap (last (suc j)) (sym e);
-        slot = λ j k. q .before .slot j k ∙ sym (slot-u (getD (p .ranks) j 0) (omega (arith, q .before .rank j k, last-le (suc j) (take i (nodes w a)), length-take-le i (nodes w a) l)));
-      };
-      end = q .end ∙ sym (slot-u i (omega arith));
-    }
-  where
-    slot-u : (r : ℕ) → r ≤ i → slotAt a (nodes u a) r ≡ slotAt a (nodes w a) r
-    slot-u r k = sym (slot-take a i (nodes u a) r k) ∙ ap (λ (t : List Node). slotAt a t r) e ∙ slot-take a i (nodes w a) r k
-
--- a list and the free chain are replaced
-module _ {w : List ℕ} {m a : ℕ} (p : Listed w m a) (ys : List Node) (fs : List ℕ) (v : Sound (putList (decode w) a ys fs)) {u : List ℕ} (eu : u ≡ encode (putList (decode w) a ys fs)) where
-  abbrev U : State
-  U = putList (decode w) a ys fs
-
-  pub decoded : decode u ≡ U
-  decoded = ap decode eu ∙ decode-encode U v
-
-  count : length (U .lists) ≡ length (decode w .lists)
-  count = length-set (decode w .lists) a ys
-
-  pub listed-then : Listed u m a
-  listed-then = record {
-    passes = rw eu (passes-encode U v (subst (λ (n : ℕ). Ranges n (decode w .levels) (decode w .room)) (sym count) (p .passes .sizes)));
-    levels = p .levels ∙ ap (λ (s : State). s .levels) (sym decoded);
-    list = omega (arith, ap (λ (s : State). length (s .lists)) decoded, count, p .list);
-  }
-
-  pub nodes-then : nodes u a ≡ ys
-  nodes-then = ap (λ (s : State). listOf s a) decoded ∙ getD-set-same (decode w .lists) a ys [] (p .list)
 
 module _ {w : List ℕ} {m a i : ℕ} (p : Leaves w m a i) {h : ℕ} (hm : h ≤ m) where
   abbrev S : State
@@ -108,17 +73,23 @@ module _ {w : List ℕ} {m a i : ℕ} (p : Leaves w m a i) {h : ℕ} (hm : h ≤
   again = ap (insertAt i n) list-R ∙ level-step i n xs (p .index)
 
   as-T : putList R a (insertAt i n (listOf R a)) (S .free) ≡ levelledAt S a i h
-  as-T = ap (λ (t : List (List Node)). record { levels = S .levels; room = S .room; lists = t; free = S .free }) (ap (set (R .lists) a) again ∙ set-set (S .lists) a (removeAt i xs) (A ++ n ∷ B))
+  as-T =
+      ap (λ (t : List (List Node)). record { levels = S .levels; room = S .room; lists = t; free = S .free })
+      (ap (set (R .lists) a) again ∙ set-set (S .lists) a (removeAt i xs) (A ++ n ∷ B))
 
   sorted-T : Sorted (A ++ n ∷ B)
-  sorted-T = sorted-swap A y n B refl (subst Sorted (split-at xs i (node N 0 0) (p .index)) (each-get Sorted (S .lists) a tt (p .listed .passes .sound .sorted)))
+  sorted-T =
+      let sorted-S = each-get Sorted (S .lists) a tt (p .listed .passes .sound .sorted) in
+      sorted-swap A y n B refl (subst Sorted (split-at xs i (node N 0 0) (p .index)) sorted-S)
 
   sorted-R : Sorted (insertAt i n (listOf R a))
   sorted-R = subst Sorted (sym again) sorted-T
 
   sound-T : Sound (levelledAt S a i h)
-  sound-T = subst Sound as-T (sound-insert-at R sound-R a (omega (arith, p .listed .list, length-set (S .lists) a (removeAt i xs))) (y .slot) (S .free) i (y .key) h refl
-      (omega (arith, hm, p .listed .levels)) sorted-R)
+  sound-T =
+      let list : a < length (R .lists) = omega (arith, p .listed .list, length-set (S .lists) a (removeAt i xs)) in
+      let height : h ≤ R .levels = omega (arith, hm, p .listed .levels) in
+      subst Sound as-T (sound-insert-at R sound-R a list (y .slot) (S .free) i (y .key) h refl height sorted-R)
 
   -- the node is out
   module _ {u : List ℕ} (eu : u ≡ encode R) where
@@ -131,8 +102,8 @@ module _ {w : List ℕ} {m a i : ℕ} (p : Leaves w m a i) {h : ℕ} (hm : h ≤
     pub leads-out : {path : Path} → Leads w m a i path → Leads u m a i path
     leads-out q = leads-kept q (ap (take i) nodes-u ∙ take-at A B i length-A) (omega (arith, p .index))
 
-    pub enters-again : {k : ℕ} → k ≡ y .key → Enters u m a i k h
-    enters-again {k} ek = rw ek (record {
+    pub can-insert-again : {k : ℕ} → k ≡ y .key → CanInsert u m a i k h
+    can-insert-again {k} ek = rw ek (record {
       listed = listed-then (p .listed) (removeAt i xs) (y .slot ∷ S .free) sound-R eu;
       height = hm;
       room = omega (arith, ap (λ (s : State). length (s .free)) is-R);
@@ -163,7 +134,7 @@ module _ {w : List ℕ} {m a i : ℕ} (p : Leaves w m a i) {h : ℕ} (hm : h ≤
     old-slot : (r : ℕ) → r ≤ i → slotAt a (nodes v a) r ≡ slotAt a xs r
     old-slot r l = sym (slot-take a i (nodes v a) r l) ∙ ap (λ (t : List Node). slotAt a t r) (ap (take i) nodes-v ∙ take-at A (n ∷ B) i length-A) ∙ slot-take a i xs r l
 
-    pub leads-on : {path q : Path} → Leads w m a i path → Passed path (y .slot) (suc i) h q → Leads v m a (suc i) q
+    pub leads-on : {path q : Path} → Leads w m a i path → SteppedOver path (y .slot) (suc i) h q → Leads v m a (suc i) q
     leads-on {path} {q} d z =
         record {
           before = record { rank = λ l k. rank-at l k; slot = λ l k. slot-at l k };
@@ -192,7 +163,7 @@ module _ {w : List ℕ} {m a i : ℕ} (p : Leaves w m a i) {h : ℕ} (hm : h ≤
               s ∙ d .before .slot l k ∙ sym (ap (slotAt a (nodes v a)) r ∙ old-slot (getD (path .ranks) l 0) b)
         ]
 
-    pub relevelled : {path q : Path} {s r g : ℕ} → Leads w m a i path → s ≡ y .slot → r ≡ i + 1 → g ≡ h → Passed path s r g q → Relevelled w m a i h v q
+    pub relevelled : {path q : Path} {s r g : ℕ} → Leads w m a i path → s ≡ y .slot → r ≡ i + 1 → g ≡ h → SteppedOver path s r g q → Relevelled w m a i h v q
     relevelled {r = r} d es er eg z =
         let er′ : r ≡ suc i = omega arith in
         let z′ = rw (es, er′, eg) at z in

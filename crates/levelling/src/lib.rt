@@ -7,16 +7,16 @@ use arena::Rank;
 use arena::Slot;
 use arena::cell;
 use arena::wide;
-use insert_remove::insert_before;
-use insert_remove::remove_after;
+use insertion::insert_before;
+use removal::remove_after;
 ghost use mathlib.Core.Path.{_≡_};
 ghost use Prim.Native.Nat.{_≤_};
 ghost use Rattle.model.specs.Lists.{twos};
 ghost use Rattle.model.specs.Arena.{encode};
 ghost use Rattle.model.specs.Calls.{doLevel};
 ghost use Rattle.model.specs.Passes.{decode};
-ghost use Rattle.arena.specs.Owners.{Listed, Leads, Leaves};
-ghost use Rattle.levelling.specs.Turns.{Full, Passed, Relevelled};
+ghost use Rattle.arena.specs.Owners.{Listed};
+ghost use Rattle.levelling.specs.NodeByNode.{Full, SteppedOver, CanRelevel, Relevelled};
 
 // The number of times 2 divides a rank, at most m, by halving it.
 pub fn height_of(m: usize, k: Rank) -> u32
@@ -38,9 +38,9 @@ pub fn height_of(m: usize, k: Rank) -> u32
 }
 
 // The path behind a node of height h, which stands at its end: the node is the precursor of the levels below h.
-fn pass(path: Path, slot: Slot, rank: Rank, h: usize) -> Path
+fn step_over(path: Path, slot: Slot, rank: Rank, h: usize) -> Path
     requires { ⌜ Full path × (h ≤ 16) ⌝ }
-    ensures { λ q. ⌜ Passed path (slot .0) (rank .0) h q ⌝ }
+    ensures { λ q. ⌜ SteppedOver path (slot .0) (rank .0) h q ⌝ }
 {
     let mut slots = path.slots;
     let mut ranks = path.ranks;
@@ -61,13 +61,13 @@ fn pass(path: Path, slot: Slot, rank: Rank, h: usize) -> Path
 
 // The node at index i goes out and in again, at height h: its slot is then the first free one. The path leads on to the next index.
 fn relevel(w: &mut [u32], m: usize, list: Slot, i: Index, h: u32, path: Path) -> Path
-    requires { ⌜ Leaves (now w) m (list .0) (i .0) × (Leads (now w) m (list .0) (i .0) path × (Full path × (h ≤ m))) ⌝ }
+    requires { ⌜ CanRelevel (now w) m (list .0) (i .0) h path ⌝ }
     ensures { λ q. ⌜ Relevelled (now (w .entry)) m (list .0) (i .0) h (now (w .exit)) q ⌝ }
 {
     let slot = Slot(cell(w, m, path.end, NEXT));
     let key = remove_after(w, m, list, i, path);
     insert_before(w, m, list, key, h, i, path);
-    pass(path, slot, Rank::from_index(i), wide(h))
+    step_over(path, slot, Rank::from_index(i), wide(h))
 }
 
 pub fn level(w: &mut [u32], m: usize, list: Slot)

@@ -9,7 +9,8 @@ use lib.ListN.{length}
 use native.Mathlib.Omega.{arith}
 use borrow.Author.Tests.{le-leb, lt-ltb, leb-true, ltb-true, ne-eqb}
 use Rattle.model.specs.Arena.{State, listOf}
-use Rattle.model.specs.Calls.{Call, search, read, insertKey, removeKey, removeIndex, truncate, clear, splitAt, splitKey, appendList, middle, level, refusal, row3, row4, row7, row8}
+use Rattle.model.specs.Calls.{Call, search, read, insertKey, removeKey, removeIndex, truncate, clear, splitAt, splitKey, appendList, middle, level}
+use Rattle.model.specs.Calls.{refusal, row3, row4, row7, row8}
 use Rattle.model.specs.Walks.{ended, isFound, keyWalk}
 use Rattle.model.proofs.Tests.{same, other, same?}
 

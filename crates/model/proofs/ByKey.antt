@@ -1,19 +1,16 @@
 -- The walk by key, as document 01 tells it: what it leaves at each level and what the search answers ("Consequences to be proved").
 -- Rests on Searching (the closed form) and Precursor (the closed form's ends on a list whose keys never fall).
-use Prim.Native.Nat.{ℕ, suc, _-_, _<_}
+use Prim.Native.Nat.{ℕ, suc, _<_}
 use mathlib.Core.Path.{_≡_, refl, sym, ap, _∙_}
 use mathlib.Core.Bool.{Bool, true, false}
 use mathlib.Core.List.{List}
-use lib.ListN.{length, drop, getD}
+use lib.ListN.{length, drop}
+use Rattle.model.specs.Claims.{LastBelow, FoundFirst, precursorRank}
 use Rattle.model.specs.Nodes.{Node, at, smaller, smallerKeys, Sorted}
-use Rattle.model.specs.Walks.{stand, precursors, isFound, placeOf, keyWalk, keyIs}
-use Rattle.model.proofs.Precursor.{LastBelow, FoundFirst, precursor-is, found-is, missing-is}
+use Rattle.model.specs.Walks.{isFound, placeOf, keyWalk, keyIs}
+use Rattle.model.proofs.Precursor.{precursor-is, found-is, missing-is}
 use Rattle.model.proofs.Searching.{walk-found, walk-place, precursor-stop, smaller-all}
 use Rattle.model.proofs.Walk.{place-is}
-
--- The rank of the precursor of level l: `precursors` has them from the highest level down.
-abbrev pub precursorRank : ℕ → ℕ → List Node → ℕ → ℕ
-precursorRank M t xs l = getD (precursors M t xs (stand 0 0)) (M - suc l) (stand 0 0) .rank
 
 module _ (M t : ℕ) (xs : List Node) (s : Sorted xs) where
   -- "for each level: the precursor is the last node of height above that level whose key is below the target, or the head, with its rank"

@@ -128,40 +128,33 @@ clauses-pass w c = record { words = words-are (decode w) (sound w c) w (reads w 
 
 -- ---- to the clauses ----
 module _ (w : List ℕ) (p : Passes w) where
-  S : State
+  abbrev S : State
   S = decode w
 
   in-lists : (a : ℕ) → a < getD w 2 0 → a < length (S .lists)
-  unfolding S
   in-lists a l = omega (arith, lists-are w)
 
   cell-of : (s : ℕ) (R : List ℕ) → recordAt (S .levels) (encode S) s ≡ R → (k : ℕ) → k < width (S .levels) → cellAt (S .levels) w s k ≡ getD R k 0
-  unfolding S
   cell-of s R e k l =
       cell-record (S .levels) w s k l ∙ ap (λ (x : List ℕ). getD x k 0) (ap (λ (u : List ℕ). recordAt (S .levels) u s) (p .words) ∙ e)
 
-  head-cell : (a : ℕ) → a < getD w 2 0 → (k : ℕ) → k < width (S .levels) → cellAt (S .levels) w a k ≡ getD (headWords (S .levels) (nodes w a)) k 0
-  unfolding S
+  pub head-cell : (a : ℕ) → a < getD w 2 0 → (k : ℕ) → k < width (S .levels) → cellAt (S .levels) w a k ≡ getD (headWords (S .levels) (nodes w a)) k 0
   head-cell a l = cell-of a (headWords (S .levels) (nodes w a)) (rec-encode S a (omega (arith, in-lists a l)) ∙ head-words S a (in-lists a l))
 
-  node-cell : (a : ℕ) (aa : List Node) (y : Node) (ys : List Node) → a < getD w 2 0 → nodes w a ≡ aa ++ y ∷ ys → (k : ℕ) → k < width (S .levels)
+  pub node-cell : (a : ℕ) (aa : List Node) (y : Node) (ys : List Node) → a < getD w 2 0 → nodes w a ≡ aa ++ y ∷ ys → (k : ℕ) → k < width (S .levels)
       → cellAt (S .levels) w (y .slot) k ≡ getD (nodeWords (S .levels) y ys) k 0
-  unfolding S
   node-cell a aa y ys l e = cell-of (y .slot) (nodeWords (S .levels) y ys) (record-node S (p .sound) a aa y ys (in-lists a l) e)
 
   free-cell : (gs : List ℕ) (f : ℕ) (fs : List ℕ) → S .free ≡ gs ++ f ∷ fs → (k : ℕ) → k < width (S .levels) → cellAt (S .levels) w f k ≡ getD (freeWords (S .levels) fs) k 0
-  unfolding S
   free-cell gs f fs e = cell-of f (freeWords (S .levels) fs) (record-free S (p .sound) gs f fs e)
 
   node-slot : (a : ℕ) (aa : List Node) (y : Node) (ys : List Node) → nodes w a ≡ aa ++ y ∷ ys → (getD w 2 0 ≤ y .slot) × (y .slot < getD w 2 0 + S .room)
-  unfolding S
   node-slot a aa y ys e =
       let t : 1 ≤ times (y .slot) (nodes w a) = subst (λ (z : List Node). 1 ≤ times (y .slot) z) (sym e) (times-mid aa y ys) in
       let q = placed S (p .sound) (y .slot) (omega (arith, timesAll-ge (y .slot) (S .lists) a)) in
       (omega (arith, lists-are w, q .0), omega (arith, lists-are w, q .1))
 
   chained-nodes : (a : ℕ) → a < getD w 2 0 → (aa ys : List Node) → nodes w a ≡ aa ++ ys → Chained (getD w 2 0) (S .levels) (S .room) w (length ys) (firstSlot ys)
-  unfolding S
   chained-nodes a l aa [] e = record { through = λ j k. absurd (omega arith); ends = refl }
   chained-nodes a l aa (y ∷ ys) e =
       let i = chained-nodes a l (aa ++ y ∷ []) ys (e ∙ sym (append-snoc aa y ys)) in
@@ -169,7 +162,6 @@ module _ (w : List ℕ) (p : Passes w) where
       chained-more (getD w 2 0) (S .levels) (S .room) w (length ys) (y .slot) (firstSlot ys) next (node-slot a aa y ys e) i
 
   chained-free : (gs fs : List ℕ) → S .free ≡ gs ++ fs → Chained (getD w 2 0) (S .levels) (S .room) w (length fs) (firstFree fs)
-  unfolding S
   chained-free gs [] e = record { through = λ j k. absurd (omega arith); ends = refl }
   chained-free gs (f ∷ fs) e =
       let i = chained-free (gs ++ f ∷ []) fs (e ∙ sym (append-snoc gs f fs)) in
@@ -178,7 +170,6 @@ module _ (w : List ℕ) (p : Passes w) where
       chained-more (getD w 2 0) (S .levels) (S .room) w (length fs) f (firstFree fs) next (omega (arith, lists-are w, q .0), omega (arith, lists-are w, q .1)) i
 
   clauses : Clauses w
-  unfolding S
   clauses = record {
     size = rw (← lists-are w) (ap length (p .words) ∙ length-encode S);
     is-mark = ap (λ (u : List ℕ). getD u 0 0) (p .words);

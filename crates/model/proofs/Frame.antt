@@ -4,10 +4,11 @@
 use Prim.Native.Nat.{ℕ, _<_}
 use mathlib.Core.Path.{_≡_, refl, sym, ap, _∙_}
 use mathlib.Core.Logic.{_≢_}
-use mathlib.Core.List.{List, [], _∷_, _++_}
+use mathlib.Core.List.{List, [], _∷_}
 use lib.ListN.{length, take, getD, set}
 use lib.Seq.{getD-set-other}
 use native.Mathlib.Omega.{arith}
+use Rattle.model.specs.Claims.{Untouched}
 use Rattle.model.specs.Arena.{State, listOf, nodeWords, encode}
 use Rattle.model.specs.Calls.{Call, search, read, insertKey, removeKey, removeIndex, truncate, clear, splitAt, splitKey, appendList, middle, level, names, Unnamed, refusal, insertIn, performed, resultOf}
 use Rattle.model.specs.Cells.{recordAt}
@@ -61,11 +62,6 @@ module _ (S : State) (b : ℕ) where
   other-list c n = after-any (λ T. listOf T b ≡ listOf S b) S c (λ p. other-performed c n) refl
 
 -- ---- their words ----
--- The records of list b, its head's and its nodes', are the same in the words of S and of T.
-pub record Untouched (S T : State) (b : ℕ) : Type 0 where
-  pub head : recordAt (S .levels) (encode T) b ≡ recordAt (S .levels) (encode S) b
-  pub node : (aa : List Node) (y : Node) (ys : List Node) → listOf S b ≡ aa ++ y ∷ ys → recordAt (S .levels) (encode T) (y .slot) ≡ recordAt (S .levels) (encode S) (y .slot)
-
 untouched : (S T : State) → Sound S → Sound T → Alike S T → (b : ℕ) → b < length (S .lists) → listOf T b ≡ listOf S b → Untouched S T b
 untouched S T v u k b l e =
     let in-T : b < length (T .lists) = omega (arith, k .lists) in

@@ -1,22 +1,17 @@
 -- Key sequences: a list whose keys never fall is known by how often each key stands in it, and an append keeps that. Rests on Ordering.
-use Prim.Native.Nat.{ℕ, zero, suc, _+_, _≤_, _<_}
+use Prim.Native.Nat.{ℕ, suc, _+_, _≤_, _<_}
 use mathlib.Core.Path.{_≡_, refl, sym, ap, ap₂, _∙_}
-use mathlib.Core.Bool.{cond}
 use mathlib.Core.List.{List, [], _∷_, _++_}
-use lib.Dec.{eqb}
 use lib.ListN.{take, drop, take-append-drop}
 use native.Mathlib.Omega.{arith}
 use native.Mathlib.Nat.{le-antisymm}
 use borrow.Author.Tests.{eq-eqb, ne-eqb}
+use Rattle.model.specs.Claims.{often}
 use Rattle.model.specs.Lists.{insert, mergeIn, append}
 use Rattle.model.specs.Nodes.{keys, Node, smaller, Above, Sorted}
 use Rattle.model.proofs.Ordering.{by-case}
 pub use Rattle.model.proofs.Ordering.{sorted-append}
 use Rattle.model.proofs.Tests.{same, other, same?, hit, miss, test}
-
-abbrev pub often : ℕ → List Node → ℕ
-often k [] = zero
-often k (y ∷ ys) = cond (eqb (y .key) k) (suc (often k ys)) (often k ys)
 
 often-above : (k t : ℕ) (ys : List Node) → k < t → Above t ys → often k ys ≡ 0
 often-above k t [] l q = refl

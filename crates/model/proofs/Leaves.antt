@@ -2,19 +2,18 @@
 -- levelling gives, and which calls change nothing. Rests on EveryCall and KeysAfter.
 use Prim.Native.Nat.{ℕ, zero, suc, _+_, _≤_, _<_}
 use mathlib.Core.Path.{_≡_, refl, sym, ap, ap₂, _∙_}
-use mathlib.Core.Bool.{cond}
 use mathlib.Core.List.{List, [], _∷_, _++_}
-use lib.Dec.{eqb}
 use lib.ListN.{length, take, drop, length-drop, drop-of-length-le, set}
 use lib.Seq.{getD-set-same, take-all, take-length, drop-length, set-getD}
 use native.Mathlib.Omega.{arith}
 use borrow.Author.Tests.{eq-eqb, ne-eqb}
+use Rattle.model.specs.Claims.{Inserted, only, backwards, LevelledAt}
 use Rattle.model.specs.Arena.{State, listOf, lastSlot, firstFree}
-use Rattle.model.specs.Calls.{insertKey, truncate, splitAt, appendList, level, resultOf}
+use Rattle.model.specs.Calls.{insertKey, truncate, splitAt, appendList, level, refusal, resultOf}
 use Rattle.model.specs.Lists.{insert, freed, mergeIn, append, levelFrom, twos}
-use Rattle.model.specs.Nodes.{Node, node, at, smallerKeys}
+use Rattle.model.specs.Nodes.{Node, node, at}
 use Rattle.model.specs.Passes.{Sound}
-use Rattle.model.proofs.Allowed.{Allowed}
+use Rattle.model.proofs.Allowed.{allowed}
 use Rattle.model.proofs.EveryCall.{after-any}
 use Rattle.model.proofs.Keeps.{sorted-list}
 use Rattle.model.proofs.KeysAfter.{accepted-result}
@@ -23,16 +22,11 @@ use Rattle.model.proofs.Splitting.{withLists, last-drop}
 use Rattle.model.proofs.Tests.{same, other, same?, hit, miss, test}
 
 -- ---- insert ----
--- "takes the first free slot and stands before the first key not below its own"
-pub record Inserted (S : State) (a k h f : ℕ) (fs : List ℕ) (T : State) : Type 0 where
-  pub nodes : let xs = listOf S a in let r = smallerKeys k xs in listOf T a ≡ take r xs ++ node f k h ∷ drop r xs
-  pub free : T .free ≡ fs
-
-pub nodes-inserted : (S : State) → Sound S → (a k h f : ℕ) (fs : List ℕ) → S .free ≡ f ∷ fs → Allowed S (insertKey a k h) → Inserted S a k h f fs (resultOf S (insertKey a k h))
+pub nodes-inserted : (S : State) → Sound S → (a k h f : ℕ) (fs : List ℕ) → S .free ≡ f ∷ fs → refusal S (insertKey a k h) ≡ 0 → Inserted S a k h f fs (resultOf S (insertKey a k h))
 nodes-inserted S v a k h f fs e p =
     let xs = listOf S a in
     rw (accepted-result S (insertKey a k h) p, e) (record {
-      nodes = getD-set-same (S .lists) a (insert (node f k h) xs) [] (p .0) ∙ (rw (smaller-all k xs (sorted-list S v a)) refl);
+      nodes = getD-set-same (S .lists) a (insert (node f k h) xs) [] (allowed S (insertKey a k h) p .0) ∙ (rw (smaller-all k xs (sorted-list S v a)) refl);
       free = refl;
     })
 
@@ -46,7 +40,7 @@ first-freed : (y : Node) (ys : List Node) (fs : List ℕ) → firstFree (freed (
 first-freed y [] fs = refl
 first-freed y (z ∷ ys) fs = first-freed z ys (y .slot ∷ fs)
 
-pub truncate-frees : (S : State) (a n : ℕ) → Allowed S (truncate a n) → n < length (listOf S a) → firstFree (resultOf S (truncate a n) .free) ≡ lastSlot (listOf S a)
+pub truncate-frees : (S : State) (a n : ℕ) → refusal S (truncate a n) ≡ 0 → n < length (listOf S a) → firstFree (resultOf S (truncate a n) .free) ≡ lastSlot (listOf S a)
 truncate-frees S a n p l =
     ap (λ (T : State). firstFree (T .free)) (accepted-result S (truncate a n) p) ∙ some-freed (drop n (listOf S a)) (omega (arith, length-drop n (listOf S a)))
     ∙ last-drop (listOf S a) n l
@@ -56,11 +50,6 @@ truncate-frees S a n p l =
     some-freed (y ∷ ys) z = first-freed y ys (S .free)
 
 -- ---- equal keys ----
--- the nodes of key k, in order
-abbrev pub only : ℕ → List Node → List Node
-only k [] = []
-only k (y ∷ ys) = cond (eqb (y .key) k) (y ∷ only k ys) (only k ys)
-
 -- an inserted node stands before all equal keys
 pub only-insert : (n : Node) (xs : List Node) → only (n .key) (insert n xs) ≡ n ∷ only (n .key) xs
 only-insert n [] = rw (eq-eqb (n .key) (n .key) refl) refl
@@ -77,10 +66,6 @@ only-others k n (y ∷ ys) ne = elim (test (suc (y .key)) (n .key)) [
 ]
 
 -- "so equal keys of b end in reverse", before those of a
-abbrev pub backwards : List Node → List Node → List Node
-backwards [] aa = aa
-backwards (b ∷ bb) aa = backwards bb (b ∷ aa)
-
 pub merge-reverses : (k : ℕ) (bb aa : List Node) → only k (mergeIn bb aa) ≡ backwards (only k bb) (only k aa)
 merge-reverses k [] aa = refl
 merge-reverses k (b ∷ bb) aa = elim (same? (b .key) k) [
@@ -91,21 +76,16 @@ merge-reverses k (b ∷ bb) aa = elim (same? (b .key) k) [
 ]
 
 -- ---- levelling ----
--- "the node of rank k gets as height the number of times 2 divides k, at most M; slots and keys stay"
-pub record LevelledAt (M : ℕ) (old new : Node) (rank : ℕ) : Type 0 where
-  pub slot : new .slot ≡ old .slot
-  pub key : new .key ≡ old .key
-  pub height : new .height ≡ twos M rank
-
 level-at : (M k : ℕ) (xs : List Node) (i r : ℕ) → r ≡ k + i → i < length xs → LevelledAt M (at xs i) (at (levelFrom M k xs) i) r
 level-at M k [] i r e l = absurd (omega arith)
 level-at M k (x ∷ xs) zero r e l = record { slot = refl; key = refl; height = ap (twos M) (omega arith) }
 level-at M k (x ∷ xs) (suc i) r e l = level-at M (suc k) xs i r (omega arith) (omega arith)
 
-pub level-heights : (S : State) (a : ℕ) → Allowed S (level a) → (i : ℕ) → i < length (listOf S a)
+pub level-heights : (S : State) (a : ℕ) → refusal S (level a) ≡ 0 → (i : ℕ) → i < length (listOf S a)
     → LevelledAt (S .levels) (at (listOf S a) i) (at (listOf (resultOf S (level a)) a) i) (suc i)
 level-heights S a p i l =
-    rw (accepted-result S (level a) p, getD-set-same (S .lists) a (levelFrom (S .levels) 1 (listOf S a)) [] p) (level-at (S .levels) 1 (listOf S a) i (suc i) (omega arith) l)
+    rw (accepted-result S (level a) p, getD-set-same (S .lists) a (levelFrom (S .levels) 1 (listOf S a)) [] (allowed S (level a) p))
+    (level-at (S .levels) 1 (listOf S a) i (suc i) (omega arith) l)
 
 -- ---- calls that change nothing ----
 module _ (S : State) where

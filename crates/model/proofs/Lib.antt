@@ -22,6 +22,7 @@ pub mod Keys
 pub mod KeysAfter
 pub mod Leaves
 pub mod Stay
+pub mod Remain
 pub mod Composing
 -- words and models
 pub mod Records
@@ -32,6 +33,7 @@ pub mod Frame
 pub mod Columns
 pub mod Chained
 pub mod Clauses
+pub mod StoredWalks
 -- which records an operation changes
 pub mod Links
 pub mod Owners
@@ -40,6 +42,9 @@ pub mod Splitting
 pub mod Inserting
 -- promises
 pub mod Refusals
-pub mod Answers
+pub mod CallAnswers
 pub mod Unique
 pub mod Runs
+pub mod Slices
+pub mod Bounded
+pub mod Order

@@ -1,30 +1,27 @@
 -- The limits of the tally (demand 3), of the walk that document 01 tells: by the number of smaller keys, by the largest gap, and on a levelled list.
 -- Rests on Searching (the walk's tally is `tally`), Walk, Gap and Levels (its limits).
 use Prim.Native.Nat.{ℕ, suc, _+_, _*_, _^_, _≤_, _<_}
-use mathlib.Core.Path.{_≡_}
-use mathlib.Core.List.{List, [], _∷_, map}
+use mathlib.Core.Path.{_≡_, ap}
+use mathlib.Core.Logic.{_≢_}
+use mathlib.Core.List.{List, [], _∷_}
 use lib.ListN.{length, take, List·getD-eq-default}
 use lib.Seq.{getD-set-same}
 use native.Mathlib.Omega.{arith}
 use Rattle.model.specs.Arena.{State, listOf}
-use Rattle.model.specs.Calls.{truncate, level, resultOf}
-use Rattle.model.specs.Gaps.{Levelled, gap}
+use Rattle.model.specs.Calls.{Call, search, read, truncate, clear, middle, level, names, Unnamed, doTruncate, refusal, resultOf}
+use Rattle.model.specs.Gaps.{Levelled, gap, comparisons, OnlyTruncates, stays, truncates, clears, AllOnlyTruncate}
 use Rattle.model.specs.Lists.{levelFrom}
 use Rattle.model.specs.Sequences.{resultsOf}
 use Rattle.model.specs.Passes.{Sound}
 use Rattle.model.specs.Nodes.{Node, smallerKeys, Sorted, Low}
-use Rattle.model.specs.Walks.{ended, keyWalk}
-use Rattle.model.proofs.EveryCall.{after-any, sound-after-all}
+use Rattle.model.proofs.EveryCall.{after-any, alike-after, sound-after-all}
+use Rattle.model.proofs.Frame.{refused-keeps, search-keeps, read-keeps, middle-keeps, other-list}
 use Rattle.model.proofs.Gap.{tally-gap}
 use Rattle.model.proofs.Keeps.{sorted-list}
 use Rattle.model.proofs.Levels.{tally-levelled, level-levelled, levelled-take}
 use Rattle.model.proofs.Searching.{walk-tally, smaller-all}
 use Rattle.model.proofs.Tests.{hit, miss, test}
 use Rattle.model.proofs.Walk.{tally-le}
-
--- The comparisons of a search.
-abbrev pub comparisons : ℕ → ℕ → List Node → ℕ
-comparisons M t xs = ended (keyWalk M t xs) .tally
 
 module _ (M t : ℕ) (xs : List Node) (s : Sorted xs) where
   -- r + M + 1, r being the number of smaller keys
@@ -39,7 +36,7 @@ module _ (M t : ℕ) (xs : List Node) (s : Sorted xs) where
   pub within-levelled : Levelled M 1 xs → length xs < 2 ^ suc M → comparisons M t xs ≤ 2 * M + 2
   within-levelled w u = omega (arith, walk-tally M t xs, tally-levelled M t xs s u w)
 
--- ---- which lists are levelled: "directly after" a levelling, "or after truncations" ----
+-- ---- which lists are levelled ----
 -- list a of a model is levelled
 pub record IsLevelled (a : ℕ) (S : State) : Type 0 where
   pub levelled : Levelled (S .levels) 1 (listOf S a)
@@ -55,21 +52,40 @@ level-levels S a = elim (test (suc a) (length (S .lists))) [
   | miss e p ↦ rw e (record { levelled = rw (no-list S a (omega arith)) tt })
 ]
 
-truncate-levelled : (S : State) (a n : ℕ) → IsLevelled a S → IsLevelled a (resultOf S (truncate a n))
-truncate-levelled S a n w =
-    after-any (IsLevelled a) S (truncate a n)
-    (λ p. record { levelled = rw (getD-set-same (S .lists) a (take n (listOf S a)) [] p) (levelled-take (S .levels) 1 n (listOf S a) (w .levelled)) })
-    w
+cut-levelled : (S : State) (a n : ℕ) → IsLevelled a S → a < length (S .lists) → IsLevelled a (doTruncate S a n)
+cut-levelled S a n w p =
+    record { levelled = rw (getD-set-same (S .lists) a (take n (listOf S a)) [] p) (levelled-take (S .levels) 1 n (listOf S a) (w .levelled)) }
 
-pub truncations-levelled : (S : State) (a : ℕ) (ns : List ℕ) → IsLevelled a S → IsLevelled a (resultsOf S (map (truncate a) ns))
-truncations-levelled S a [] w = w
-truncations-levelled S a (n ∷ ns) w = truncations-levelled (resultOf S (truncate a n)) a ns (truncate-levelled S a n w)
+only-truncates-levelled : (S : State) (a : ℕ) (c : Call) → OnlyTruncates a S c → IsLevelled a S → IsLevelled a (resultOf S c)
+only-truncates-levelled S a c (stays e) w = record { levelled = rw (alike-after S c .levels, e) (w .levelled) }
+only-truncates-levelled S a c (truncates n e) w = rw e (after-any (IsLevelled a) S (truncate a n) (cut-levelled S a n w) w)
+only-truncates-levelled S a c (clears e) w = rw e (after-any (IsLevelled a) S (clear a) (cut-levelled S a 0 w) w)
 
--- the second limit: a search in list a, after levelling it and truncating it any number of times
-pub search-levelled : (S : State) → Sound S → (a : ℕ) (ns : List ℕ) (t : ℕ)
-    → let T = resultsOf S (level a ∷ map (truncate a) ns) in
+still-levelled : (S : State) (a : ℕ) (cs : List Call) → AllOnlyTruncate a S cs → IsLevelled a S → IsLevelled a (resultsOf S cs)
+still-levelled S a [] k w = w
+still-levelled S a (c ∷ cs) k w = still-levelled (resultOf S c) a cs (k .1) (only-truncates-levelled S a c (k .0) w)
+
+-- the second limit, after levelling list a and calls that leave it as it is or truncate it
+pub search-levelled : (S : State) → Sound S → (a : ℕ) (cs : List Call) (t : ℕ) → AllOnlyTruncate a (resultOf S (level a)) cs
+    → let T = resultsOf S (level a ∷ cs) in
     length (listOf T a) < 2 ^ suc (T .levels) → comparisons (T .levels) t (listOf T a) ≤ 2 * T .levels + 2
-search-levelled S v a ns t u =
-    let T = resultsOf S (level a ∷ map (truncate a) ns) in
-    within-levelled (T .levels) t (listOf T a) (sorted-list T (sound-after-all S v (level a ∷ map (truncate a) ns)) a)
-    (truncations-levelled (resultOf S (level a)) a ns (level-levels S a) .levelled) u
+search-levelled S v a cs t k u =
+    let T = resultsOf S (level a ∷ cs) in
+    within-levelled (T .levels) t (listOf T a) (sorted-list T (sound-after-all S v (level a ∷ cs)) a)
+    (still-levelled (resultOf S (level a)) a cs k (level-levels S a) .levelled) u
+
+-- ---- which calls leave list a as it was: those that are refused, that read, and that name other lists ----
+pub refused-stays : (S : State) (a : ℕ) (c : Call) → refusal S c ≢ 0 → OnlyTruncates a S c
+refused-stays S a c n = stays (ap (λ (T : State). listOf T a) (refused-keeps S c n))
+
+pub search-stays : (S : State) (a b k allowance : ℕ) → OnlyTruncates a S (search b k allowance)
+search-stays S a b k allowance = stays (ap (λ (T : State). listOf T a) (search-keeps S b k allowance))
+
+pub read-stays : (S : State) (a b i : ℕ) → OnlyTruncates a S (read b i)
+read-stays S a b i = stays (ap (λ (T : State). listOf T a) (read-keeps S b i))
+
+pub middle-stays : (S : State) (a b : ℕ) → OnlyTruncates a S (middle b)
+middle-stays S a b = stays (ap (λ (T : State). listOf T a) (middle-keeps S b))
+
+pub other-stays : (S : State) (a : ℕ) (c : Call) → Unnamed a (names c) → OnlyTruncates a S c
+other-stays S a c n = stays (other-list S a c n)

@@ -9,6 +9,7 @@ use lib.Seq.{drop-append-le, length-take-le, getD-take, getD-drop}
 use native.Mathlib.Nat.{zero-add, add-zero, sub-self, not-suc-le-zero, suc-ne-zero, suc-inj, eq-or-lt-of-le}
 use native.Mathlib.Omega.{arith}
 use borrow.Author.Tests.{le-leb, eqb-true, eqb-false}
+use Rattle.model.specs.Claims.{LastBelow, FoundFirst}
 use Rattle.model.specs.Links.{further}
 use Rattle.model.specs.Nodes.{at, Node, node, N, smaller, Below, Above, Sorted}
 use Rattle.model.specs.Walks.{stops, keyIs, last}
@@ -77,13 +78,6 @@ above-at t [] p i l = absurd (not-suc-le-zero l)
 above-at t (y ∷ ys) p zero l = p .0
 above-at t (y ∷ ys) p (suc i) l = above-at t ys (p .1) i (omega arith)
 
--- r is the rank of the last node of height h or more whose key is below t, or 0, the head's
-pub record LastBelow (h t : ℕ) (xs : List Node) (r : ℕ) : Type 0 where
-  pub within : r ≤ length xs
-  pub tall-enough : (i : ℕ) → r ≡ suc i → h ≤ at xs i .height
-  pub below : (i : ℕ) → r ≡ suc i → at xs i .key < t
-  pub none-after : (i : ℕ) → r ≤ i → i < length xs → h ≤ at xs i .height → t ≤ at xs i .key
-
 -- keys at an index, of a list whose keys never fall
 pub key-below : (t : ℕ) (xs : List Node) → Sorted xs → (i : ℕ) → i < smaller t xs → at xs i .key < t
 key-below t xs s i l =
@@ -123,12 +117,6 @@ precursor-is M t xs s h l =
             omega arith
       ];
     })
-
--- found exactly when some key is the target, and then the place is the first such
-pub record FoundFirst (t : ℕ) (xs : List Node) (r : ℕ) : Type 0 where
-  pub within : r < length xs
-  pub equal : at xs r .key ≡ t
-  pub first : (i : ℕ) → i < r → at xs i .key < t
 
 key-true : (t : ℕ) (ys : List Node) → keyIs t ys ≡ true → (0 < length ys) × (at ys 0 .key ≡ t)
 key-true t [] e = absurd (false≢true e)

@@ -1,7 +1,7 @@
 -- "The lowest number that applies is given": of the rows that apply to a call `refusal` gives the lowest, and 0 where none applies.
 -- Rests on specs/Refusals (the table) and ByKey (a key is found exactly when it is there).
 use Prim.Native.Nat.{ℕ, suc, _≤_, _<_}
-use mathlib.Core.Path.{_≡_, refl, ap}
+use mathlib.Core.Path.{_≡_, refl, ap, _∙_}
 use mathlib.Core.Logic.{_≢_, inl, inr}
 use mathlib.Core.Bool.{Bool, true, false, cond}
 use mathlib.Core.List.{List, [], _∷_}
@@ -10,10 +10,12 @@ use lib.ListN.{length}
 use native.Mathlib.Omega.{arith}
 use borrow.Author.Tests.{le-ltb, lt-leb, eq-eqb}
 use Rattle.model.specs.Arena.{State, listOf}
-use Rattle.model.specs.Calls.{Call, search, read, insertKey, removeKey, removeIndex, truncate, clear, splitAt, splitKey, appendList, middle, level, refusal, row3, row4, row7, names}
+use Rattle.model.specs.Calls.{Call, search, read, insertKey, removeKey, removeIndex, truncate, clear, splitAt, splitKey, appendList, middle, level}
+use Rattle.model.specs.Calls.{refusal, row3, row4, row7, names}
 use Rattle.model.specs.Nodes.{Node}
 use Rattle.model.specs.Passes.{Sound}
-use Rattle.model.specs.Refusals.{Past, Applies, no-list, same-lists, too-high, none-free, not-empty-at, not-empty-key, read-past, remove-past, split-past, no-middle, no-key, over}
+use Rattle.model.specs.Refusals.{Past, Applies, no-list, same-lists, too-high, none-free, not-empty-at, not-empty-key}
+use Rattle.model.specs.Refusals.{read-past, remove-past, split-past, no-middle, no-key, over}
 use Rattle.model.specs.Walks.{ended, isFound, keyWalk}
 use Rattle.model.proofs.Allowed.{no-length}
 use Rattle.model.proofs.ByKey.{key-missing, key-found}
@@ -53,12 +55,18 @@ module _ (S : State) (v : Sound S) where
   one : (c : Call) (a later : ℕ) → (length (S .lists) ≤ a → Past (length (S .lists)) (names c)) → Good c later → Good c (row3 S a later)
   one c a later f p = at3 (Good c) S a later (λ l z. no-list (f l)) p
 
+  two : (c : Call) (a b later : ℕ) → names c ≡ a ∷ b ∷ [] → Good c later → Good c (row3 S a (row3 S b (row4 a b later)))
+  two c a b later e p =
+      let fourth = at4 (Good c) S a b later (λ q z. same-lists {a = b} (e ∙ ap (λ (x : ℕ). x ∷ b ∷ []) q)) p in
+      one c a _ (λ l. rw e (inl l)) (one c b _ (λ l. rw e (inr (inl l))) fourth)
+
   pub given-applies : (c : Call) → 0 < refusal S c → Applies S c (refusal S c)
   given-applies (search a k w) = one (search a k w) a _ inl (at-le (Good (search a k w)) S _ w 0 10 (λ l z. over l) (none (search a k w)))
   given-applies (read a i) = one (read a i) a _ inl (at-le (Good (read a i)) S (suc i) _ 0 8 (λ l z. read-past (omega arith)) (none (read a i)))
   given-applies (insertKey a k h) =
       let c = insertKey a k h in
-      one c a _ inl (at-le (Good c) S h (S .levels) _ 5 (λ l z. too-high l) (at-le (Good c) S 1 (length (S .free)) 0 6 (λ l z. none-free (no-length (S .free) (omega (arith, l)))) (none c)))
+      let room = at-le (Good c) S 1 (length (S .free)) 0 6 (λ l z. none-free (no-length (S .free) (omega (arith, l)))) (none c) in
+      one c a _ inl (at-le (Good c) S h (S .levels) _ 5 (λ l z. too-high l) room)
   given-applies (removeKey a k) =
       let c = removeKey a k in
       one c a _ inl (at-bool (Good c) S (isFound (keyWalk (S .levels) k (listOf S a))) 0 9 (λ e z. no-key (key-missing (S .levels) k (listOf S a) (sorted-list S v a) e)) (none c))
@@ -67,15 +75,14 @@ module _ (S : State) (v : Sound S) where
   given-applies (clear a) = one (clear a) a 0 inl (none (clear a))
   given-applies (splitAt a b i) =
       let c = splitAt a b i in
-      one c a _ inl (one c b _ (λ l. inr (inl l)) (at4 (Good c) S a b _ (λ e z. same-lists {a = b} (ap (λ (x : ℕ). x ∷ b ∷ []) e))
-      (at7 (Good c) S b _ (λ n z. not-empty-at n) (at-le (Good c) S i _ 0 8 (λ l z. split-past l) (none c)))))
+      two c a b _ refl (at7 (Good c) S b _ (λ n z. not-empty-at n) (at-le (Good c) S i _ 0 8 (λ l z. split-past l) (none c)))
   given-applies (splitKey a b k) =
       let c = splitKey a b k in
-      one c a _ inl (one c b _ (λ l. inr (inl l)) (at4 (Good c) S a b _ (λ e z. same-lists {a = b} (ap (λ (x : ℕ). x ∷ b ∷ []) e)) (at7 (Good c) S b _ (λ n z. not-empty-key n) (none c))))
-  given-applies (appendList a b) =
-      let c = appendList a b in
-      one c a _ inl (one c b _ (λ l. inr (inl l)) (at4 (Good c) S a b _ (λ e z. same-lists {a = b} (ap (λ (x : ℕ). x ∷ b ∷ []) e)) (none c)))
-  given-applies (middle a) = one (middle a) a _ inl (at-le (Good (middle a)) S 1 (length (listOf S a)) 0 8 (λ l z. no-middle (no-length (listOf S a) (omega (arith, l)))) (none (middle a)))
+      two c a b _ refl (at7 (Good c) S b 0 (λ n z. not-empty-key n) (none c))
+  given-applies (appendList a b) = two (appendList a b) a b 0 refl (none (appendList a b))
+  given-applies (middle a) =
+      let c = middle a in
+      one c a _ inl (at-le (Good c) S 1 (length (listOf S a)) 0 8 (λ l z. no-middle (no-length (listOf S a) (omega (arith, l)))) (none c))
   given-applies (level a) = one (level a) a 0 inl (none (level a))
 
 -- ---- what applies is not below what is given ----

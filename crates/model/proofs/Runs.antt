@@ -45,8 +45,12 @@ run-is {w} (next {c = c} {cs = cs} q rest) p =
 pub run-leaves : {w u : List ℕ} {cs : List Call} {rs : List Answer} → Run w cs rs u → Passes w → decode u ≡ resultsOf (decode w) cs
 run-leaves {w} {cs = cs} r p = model-of (resultsOf (decode w) cs) (sound-after-all (decode w) (p .sound) cs) (run-is r p .1)
 
+pub run-passes : {w u : List ℕ} {cs : List Call} {rs : List Answer} → Run w cs rs u → Passes w → Passes u
+run-passes done p = p
+run-passes (next {c = c} q rest) p = run-passes rest (subst Passes (sym (q .whole p .1)) (passes-after p c))
+
 -- words that do not pass stay, and every call answers 1
-pub run-broken : {w u : List ℕ} {cs : List Call} {rs : List Answer} → Run w cs rs u → ¬ Passes w → (rs ≡ map (λ c. refused 1 0) cs) × (u ≡ w)
+pub run-broken : {w u : List ℕ} {cs : List Call} {rs : List Answer} → Run w cs rs u → ¬ Passes w → (rs ≡ map (λ c. refused 1) cs) × (u ≡ w)
 run-broken done n = (refl, refl)
 run-broken {w} (next q rest) n =
     let a = q .broken n in

@@ -9,17 +9,9 @@ use Rattle.model.specs.Arena.{State, listOf, firstFree}
 use Rattle.model.specs.Calls.{Call, search, read, insertKey, removeKey, removeIndex, truncate, clear, splitAt, splitKey, appendList, middle, level, insertIn, doSplit, doLevel, performed, resultOf}
 use Rattle.model.specs.Lists.{insertAt, insert, removeAt, mergeIn, append, levelFrom}
 use Rattle.model.specs.Nodes.{Node, node, smaller}
+use Rattle.model.specs.Stays.{Has, Stands, Stated}
 use Rattle.model.proofs.EveryCall.{after-any}
 use Rattle.model.proofs.Ordering.{by-case}
-
--- y is one of these nodes; stands in a list of the model
-abbrev pub Has : Node → List Node → Type 0
-Has y [] = ⊥
-Has y (x ∷ xs) = (y ≡ x) ⊎ Has y xs
-
-pub record Stands (y : Node) (S : State) : Type 0 where
-  pub list : ℕ
-  pub there : Has y (listOf S list)
 
 -- ---- parts of lists ----
 has-take : (y : Node) (n : ℕ) (xs : List Node) → Has y (take n xs) → Has y xs
@@ -83,21 +75,6 @@ module _ (y : Node) (S : State) where
 
   in-a : (a : ℕ) → Has y (listOf S a) → Stands y S
   in-a a h = record { list = a; there = h }
-
--- What is stated of y: it was inserted, or levelled.
-abbrev pub Stated : State → Call → Node → Type 0
-Stated S (search a k w) y = ⊥
-Stated S (read a i) y = ⊥
-Stated S (insertKey a k h) y = y ≡ node (firstFree (S .free)) k h
-Stated S (removeKey a k) y = ⊥
-Stated S (removeIndex a i) y = ⊥
-Stated S (truncate a n) y = ⊥
-Stated S (clear a) y = ⊥
-Stated S (splitAt a b i) y = ⊥
-Stated S (splitKey a b k) y = ⊥
-Stated S (appendList a b) y = ⊥
-Stated S (middle a) y = ⊥
-Stated S (level a) y = (x : Node) × Has x (listOf S a) × (y .slot ≡ x .slot) × (y .key ≡ x .key)
 
 has-level : (y : Node) (M k : ℕ) (xs : List Node) → Has y (levelFrom M k xs) → (x : Node) × Has x xs × (y .slot ≡ x .slot) × (y .key ≡ x .key)
 has-level y M k [] h = absurd h

@@ -8,7 +8,7 @@ use native.Mathlib.Omega.{arith}
 use borrow.Author.Tests.{le-leb, lt-ltb, le-ltb}
 use Rattle.model.specs.Arena.{firstSlot}
 use Rattle.model.specs.Links.{further, distance, target}
-use Rattle.model.specs.Nodes.{Node, at}
+use Rattle.model.specs.Nodes.{Node, N, at}
 use Rattle.model.specs.Walks.{go, asks}
 use Rattle.model.proofs.Tests.{hit, miss, test}
 
@@ -72,6 +72,25 @@ target-at h (y ∷ ys) zero e = elim (test h (y .height)) [ hit f p ↦ rw f ref
 target-at h (y ∷ ys) (suc d) e = elim (test h (y .height)) [
   | hit f p ↦ absurd (omega (arith, rw f at e))
   | miss f p ↦ rw f (target-at h ys d (further-one (distance h ys) (suc d) (rw f at e) .0))
+]
+
+pub target-none : (h : ℕ) (ys : List Node) → distance h ys ≡ 0 → target h ys ≡ N
+target-none h [] e = refl
+target-none h (y ∷ ys) e = elim (test h (y .height)) [
+  | hit f p ↦ absurd (omega (arith, rw f at e))
+  | miss f p ↦ rw f (target-none h ys (further-zero (distance h ys) (rw f at e)))
+]
+
+-- a link goes to a node of its stage, within the list
+pub distance-tall : (h : ℕ) (ys : List Node) (d : ℕ) → distance h ys ≡ suc d → (d < length ys) × (h ≤ at ys d .height)
+distance-tall h [] d e = absurd (omega (arith, e))
+distance-tall h (y ∷ ys) zero e = elim (test h (y .height)) [
+  | hit f p ↦ (omega arith, p)
+  | miss f p ↦ absurd (omega (arith, further-one (distance h ys) 0 (rw f at e)))
+]
+distance-tall h (y ∷ ys) (suc d) e = elim (test h (y .height)) [
+  | hit f p ↦ absurd (omega (arith, rw f at e))
+  | miss f p ↦ let i = distance-tall h ys d (further-one (distance h ys) (suc d) (rw f at e) .0) in (omega (arith, i .0), i .1)
 ]
 
 -- ---- how far a link goes, and next as the link of stage 0 ----

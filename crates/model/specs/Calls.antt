@@ -118,27 +118,41 @@ pub record Answer : Type 0 where
   pub key : ℕ
   pub tally : ℕ
 
-abbrev pub answer : ℕ → ℕ → ℕ → ℕ → ℕ → Answer
-answer number f p k n = record { number = number; found = f; place = p; key = k; tally = n }
+-- "An accepted call answers number 0. Beside it the search answers as told below": "found with index r, or missing with place r, .. and the tally".
+abbrev pub searched : Bool → ℕ → ℕ → Answer
+searched met r n = record { number = 0; found = cond met 1 0; place = r; key = 0; tally = n }
 
--- "An accepted call answers number 0. Beside it the search answers as told below, read, both removes and middle a key ..; the other calls
--- answer nothing more."
+-- "read, both removes and middle a key".
+abbrev pub keyed : ℕ → Answer
+keyed k = record { number = 0; found = 0; place = 0; key = k; tally = 0 }
+
+-- "the other calls answer nothing more".
+abbrev pub plain : Answer
+plain = record { number = 0; found = 0; place = 0; key = 0; tally = 0 }
+
+-- "A refusal returns zeros beside its number".
+abbrev pub refused : ℕ → Answer
+refused n = record { number = n; found = 0; place = 0; key = 0; tally = 0 }
+
+-- "except 10, which returns the allowance as its tally."
+abbrev pub beyond : ℕ → Answer
+beyond allowance = record { number = 10; found = 0; place = 0; key = 0; tally = allowance }
+
 abbrev pub accepted : State → Call → Answer
-accepted S (search a k allowance) =
-    let e = keyWalk (S .levels) k (listOf S a) in answer 0 (cond (isFound e) 1 0) (placeOf e) 0 (ended e .tally)
-accepted S (read a i) = answer 0 0 0 (keyAt (listOf S a) i) 0
-accepted S (insertKey a k h) = answer 0 0 0 0 0
-accepted S (removeKey a k) = answer 0 0 0 k 0
-accepted S (removeIndex a i) = answer 0 0 0 (keyAt (listOf S a) i) 0
-accepted S (truncate a n) = answer 0 0 0 0 0
-accepted S (clear a) = answer 0 0 0 0 0
-accepted S (splitAt a b i) = answer 0 0 0 0 0
-accepted S (splitKey a b k) = answer 0 0 0 0 0
-accepted S (appendList a b) = answer 0 0 0 0 0
-accepted S (middle a) = answer 0 0 0 (middleOf (listOf S a)) 0
-accepted S (level a) = answer 0 0 0 0 0
+accepted S (search a k allowance) = let e = keyWalk (S .levels) k (listOf S a) in searched (isFound e) (placeOf e) (ended e .tally)
+accepted S (read a i) = keyed (keyAt (listOf S a) i)
+accepted S (insertKey a k h) = plain
+accepted S (removeKey a k) = keyed k
+accepted S (removeIndex a i) = keyed (keyAt (listOf S a) i)
+accepted S (truncate a n) = plain
+accepted S (clear a) = plain
+accepted S (splitAt a b i) = plain
+accepted S (splitKey a b k) = plain
+accepted S (appendList a b) = plain
+accepted S (middle a) = keyed (middleOf (listOf S a))
+accepted S (level a) = plain
 
--- "A refusal returns zeros beside its number, except 10, which returns the allowance as its tally."
+-- "Only the search takes an allowance".
 abbrev pub allowanceOf : Call → ℕ
 allowanceOf (search a k allowance) = allowance
 allowanceOf (read a i) = 0
@@ -153,8 +167,8 @@ allowanceOf (appendList a b) = 0
 allowanceOf (middle a) = 0
 allowanceOf (level a) = 0
 
-abbrev pub refused : ℕ → ℕ → Answer
-refused number allowance = answer number 0 0 0 (cond (eqb number 10) allowance 0)
+abbrev pub declined : ℕ → Call → Answer
+declined n c = cond (eqb n 10) (beyond (allowanceOf c)) (refused n)
 
 abbrev pub performed : State → Call → State
 performed S (search a k allowance) = S
@@ -172,7 +186,7 @@ performed S (level a) = doLevel S a
 
 -- What a call answers on a model, and the model that it leaves.
 abbrev pub answerTo : State → Call → Answer
-answerTo S c = cond (eqb (refusal S c) 0) (accepted S c) (refused (refusal S c) (allowanceOf c))
+answerTo S c = cond (eqb (refusal S c) 0) (accepted S c) (declined (refusal S c) c)
 
 abbrev pub resultOf : State → Call → State
 resultOf S c = cond (eqb (refusal S c) 0) (performed S c) S
@@ -180,7 +194,7 @@ resultOf S c = cond (eqb (refusal S c) 0) (performed S c) S
 -- ---- the promise of every public call on an arena ----
 -- "1: the arena doesn't pass the check", and a refusal leaves every word as it was; else the answer and all words after are those of the model.
 pub record Promise (c : Call) (before after : List ℕ) (r : Answer) : Type 0 where
-  pub broken : ¬ Passes before → (r ≡ refused 1 0) × (after ≡ before)
+  pub broken : ¬ Passes before → (r ≡ refused 1) × (after ≡ before)
   pub whole : Passes before → (r ≡ answerTo (decode before) c) × (after ≡ encode (resultOf (decode before) c))
 
 -- ---- set-up ----

@@ -1,4 +1,4 @@
--- Levelled lists, and the largest gap of a list (request K10), by which the tally is bounded. Rests on Nodes and Lists.
+-- Levelled lists, the largest gap of a list (request K10), and what demand 3 says of searches. Rests on Nodes, Lists and Calls.
 use Prim.Native.Nat.{ℕ, zero, suc, max}
 use mathlib.Core.Path.{_≡_}
 use mathlib.Core.Bool.{cond}
@@ -6,6 +6,9 @@ use mathlib.Core.List.{List, [], _∷_}
 use lib.Dec.{leb}
 use Rattle.model.specs.Nodes.{Node}
 use Rattle.model.specs.Lists.{twos}
+use Rattle.model.specs.Walks.{ended, keyWalk}
+use Rattle.model.specs.Arena.{State, listOf}
+use Rattle.model.specs.Calls.{Call, truncate, clear, resultOf}
 
 -- The node of rank k has the height that levelling gives it, and so have those after it.
 abbrev pub Levelled : ℕ → ℕ → List Node → Type 0
@@ -22,3 +25,19 @@ gapAt h c (y ∷ ys) = cond (leb h (y .height)) (cond (leb (y .height) h) (gapAt
 abbrev pub gap : ℕ → List Node → ℕ
 gap zero xs = gapAt zero 0 xs
 gap (suc h) xs = max (gapAt (suc h) 0 xs) (gap h xs)
+
+-- ---- demand 3 ----
+-- The comparisons of a search for key t in a list of M levels: the tally of the walk.
+abbrev pub comparisons : ℕ → ℕ → List Node → ℕ
+comparisons M t xs = ended (keyWalk M t xs) .tally
+
+-- "Directly after a levelling of that list, or after truncations of it following one with no other change to it": the call leaves list a as it was,
+-- or truncates it ("Clear is truncate to 0").
+pub data OnlyTruncates (a : ℕ) (S : State) (c : Call) : Type 0 where
+  stays : listOf (resultOf S c) a ≡ listOf S a → OnlyTruncates a S c
+  truncates : (n : ℕ) → c ≡ truncate a n → OnlyTruncates a S c
+  clears : c ≡ clear a → OnlyTruncates a S c
+
+abbrev pub AllOnlyTruncate : ℕ → State → List Call → Type 0
+AllOnlyTruncate a S [] = Unit {0}
+AllOnlyTruncate a S (c ∷ cs) = OnlyTruncates a S c × AllOnlyTruncate a (resultOf S c) cs

@@ -6,8 +6,13 @@ pub mod Lists
 pub mod Arena
 pub mod Cells
 pub mod Passes
+pub mod StoredWalks
 pub mod Calls
 pub mod Refusals
+pub mod Claims
+pub mod Stays
 pub mod Sequences
+pub mod Slices
 pub mod Gaps
 pub mod Bench
+pub mod Order

@@ -2,6 +2,7 @@
 mod text;
 
 pub use text::Text;
+pub use text::unknown;
 ghost use Prim.Native.Nat.{_≤_};
 ghost use Rattle.script.specs.Lines.{Within};
 

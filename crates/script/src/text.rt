@@ -11,6 +11,11 @@ pub struct Text {
     pub len: usize,
 }
 
+// The answer to a line that is no item.
+pub fn unknown() {
+    Text::new().byte(b'?').byte(b'\n').print();
+}
+
 impl Text {
     pub fn new() -> Text {
         Text {

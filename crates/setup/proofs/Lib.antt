@@ -1,2 +1,3 @@
-pub mod New
-pub mod Filling
+-- The laws of set-up, by theme.
+pub mod NewModel
+pub mod Writing

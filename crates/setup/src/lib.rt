@@ -1,11 +1,14 @@
-// Set-up (module 2 of document 01): all lists empty, the free slots chained upwards from L.
+// Set-up (module 2 of document 01): all lists empty, the free slots chained upwards from L. Rests on arena, which says where each word stands.
 ghost use mathlib.Core.Path.{_≡_};
 ghost use Prim.Native.Nat.{_+_, _-_, _*_, _≤_, _<_};
 ghost use lib.ListN.{length};
-ghost use Rattle.model.specs.Arena.{headerWords, width, header, setUp, recordOf};
+ghost use Rattle.model.specs.Arena.{headerWords, width, countColumn, header, setUp, recordOf};
 ghost use Rattle.model.specs.Calls.{SetUpPromise};
 ghost use Rattle.arena.specs.Lies.{Lies};
-ghost use Rattle.setup.specs.Bare.{bareWord, bareWords, Written, Filled, HeaderSet, numberOf};
+ghost use Rattle.arena.specs.Linked.{putRow};
+ghost use Rattle.setup.specs.Bare.{numberOf};
+ghost use Rattle.setup.specs.NewRecords.{frontWords, bareRecord, Written, FirstNew, HeaderSet};
+use arena::Link;
 use arena::Slot;
 
 pub enum Setup {
@@ -13,86 +16,75 @@ pub enum Setup {
     Wrong,
 }
 
-// The first four words of a record whose links are all absent.
-pub struct Bare {
-    pub a: u32,
-    pub b: u32,
-    pub e: u32,
-    pub d: u32,
+// The words of a record before its links.
+pub struct Front {
+    pub count: u32,
+    pub height: u32,
+    pub next: u32,
+    pub last: u32,
 }
 
-// The word in column c of such a record.
-fn bare_word(c: usize, f: Bare) -> u32
-    ensures { λ r. ⌜ r ≡ bareWord c (f .a) (f .b) (f .e) (f .d) ⌝ }
-{
-    if c == arena::KEY {
-        return f.a;
-    }
-    if c == arena::HEIGHT {
-        return f.b;
-    }
-    if c == arena::NEXT {
-        return f.e;
-    }
-    if c == arena::LAST {
-        return f.d;
-    }
-    if c % arena::LINK == 0 {
-        return Slot::NONE.0;
-    }
-    0
-}
-
-fn write_record(w: &mut [u32], m: usize, s: Slot, f: Bare)
+fn write_front(w: &mut [u32], m: usize, s: Slot, f: Front)
     requires { ⌜ Lies (now w) m (s .0) ⌝ }
-    ensures { λ _. ⌜ Written m (now (w .entry)) (s .0) (bareWords m (f .a) (f .b) (f .e) (f .d)) (now (w .exit)) ⌝ }
+    ensures { λ _. ⌜ now (w .exit) ≡ putRow m (now (w .entry)) (s .0) countColumn (frontWords f) ⌝ }
 {
-    let words = arena::width(m);
-    let mut c: usize = 0;
-    while c < words {
-        arena::put(w, m, s, c, bare_word(c, f));
-        c += 1;
+    arena::put(w, m, s, arena::COUNT, f.count);
+    arena::put(w, m, s, arena::HEIGHT, f.height);
+    arena::put(w, m, s, arena::NEXT, f.next);
+    arena::put(w, m, s, arena::LAST, f.last);
+}
+
+// The record of slot s, with all its links absent.
+fn write_record(w: &mut [u32], m: usize, s: Slot, f: Front)
+    requires { ⌜ Lies (now w) m (s .0) ⌝ }
+    ensures { λ _. ⌜ Written m (now (w .entry)) (s .0) (bareRecord m f) 0 (width m) (now (w .exit)) ⌝ }
+{
+    write_front(w, m, s, f);
+    let mut l: usize = 0;
+    while l < m {
+        arena::put_link(w, m, s, l, Link::ABSENT);
+        l += 1;
     }
 }
 
-// The record of slot s of n in a new arena: an empty list's head, or a free slot before the next.
-fn form(s: u32, l: u32, m: u32, n: u32) -> Bare
+// The front of slot s of n in a new arena: an empty list's head, or a free slot before the next.
+fn front_of(s: u32, l: u32, m: u32, n: u32) -> Front
     requires { ⌜ (l ≤ n) × (s < n) × (n ≤ 65551) ⌝ }
-    ensures { λ r. ⌜ bareWords m (r .a) (r .b) (r .e) (r .d) ≡ recordOf (setUp l m (n - l)) s ⌝ }
+    ensures { λ r. ⌜ bareRecord m r ≡ recordOf (setUp l m (n - l)) s ⌝ }
 {
     if s < l {
-        return Bare {
-            a: 0,
-            b: m,
-            e: Slot::NONE.0,
-            d: Slot::NONE.0,
+        return Front {
+            count: 0,
+            height: m,
+            next: Slot::NONE.0,
+            last: Slot::NONE.0,
         };
     }
     if s + 1 == n {
-        return Bare {
-            a: 0,
-            b: Slot::NONE.0,
-            e: Slot::NONE.0,
-            d: 0,
+        return Front {
+            count: 0,
+            height: Slot::NONE.0,
+            next: Slot::NONE.0,
+            last: 0,
         };
     }
-    Bare {
-        a: 0,
-        b: Slot::NONE.0,
-        e: s + 1,
-        d: 0,
+    Front {
+        count: 0,
+        height: Slot::NONE.0,
+        next: s + 1,
+        last: 0,
     }
 }
 
 fn write_records(w: &mut [u32], l: u32, m: u32, n: u32)
     requires { ⌜ (l ≤ n) × (n ≤ 65551) × (m ≤ 16) ⌝ }
     requires { ⌜ length (now w) ≡ headerWords + n * width m ⌝ }
-    ensures { λ _. ⌜ Filled l m n (now (w .entry)) n (now (w .exit)) ⌝ }
+    ensures { λ _. ⌜ FirstNew l m n (now (w .entry)) n (now (w .exit)) ⌝ }
 {
     let levels = arena::wide(m);
     let mut s: u32 = 0;
     while s < n {
-        write_record(w, levels, Slot(s), form(s, l, m, n));
+        write_record(w, levels, Slot(s), front_of(s, l, m, n));
         s += 1;
     }
 }

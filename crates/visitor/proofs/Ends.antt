@@ -1,4 +1,4 @@
--- What the walks answer, as the visitors hold it. Rests on specs/Visits and on model's Searching and ByRank.
+-- What the walks answer, as the visitors hold it. Rests on specs/Visited and on model's Searching and ByRank.
 use Prim.Native.Nat.{ℕ, suc, _-_, _≤_, _<_}
 use mathlib.Core.Path.{_≡_, refl, sym, ap, _∙_}
 use mathlib.Core.Bool.{Bool, true, false, cond}
@@ -10,7 +10,7 @@ use borrow.Author.Tests.{le-leb, lt-leb, lt-ltb}
 use Rattle.model.specs.Nodes.{Node, slotAt, smaller}
 use Rattle.model.specs.Walks.{stand, End, found, missing, ended, isFound, keyWalk, ends, tally, keyIs}
 use Rattle.model.specs.Arena.{State, listOf}
-use Rattle.model.specs.Calls.{search, Answer, answer, answerTo}
+use Rattle.model.specs.Calls.{search, Answer, answerTo, searched, beyond, refused}
 use Rattle.model.specs.Passes.{decode, nodes}
 use Rattle.model.proofs.Tests.{hit, miss, test}
 use Rattle.model.proofs.Keeps.{sorted-list}
@@ -22,23 +22,23 @@ use Rattle.arena.specs.Owners.{Listed}
 use Rattle.arena.specs.declared.Slot.{Slot}
 use Rattle.arena.specs.declared.Rank.{Rank}
 use Rattle.arena.specs.declared.Index.{Index}
-use Rattle.walk.specs.Answers.{answerOf}
-use Rattle.walk.specs.declared.Searched.{Searched}
-use Rattle.walk.specs.declared.Searched.the-variants.{Found, Missing, Beyond}
-use Rattle.visitor.specs.Visits.{keyEnd, keyOver, keyVisit, rankVisit}
+use Rattle.key_walk.specs.SearchAnswer.{answerOf}
+use Rattle.key_walk.specs.declared.Searched.{Searched}
+use Rattle.key_walk.specs.declared.Searched.the-variants.{Found, Missing, Beyond}
+use Rattle.visitor.specs.Visited.{keyEnd, keyOver, keyVisit, rankVisit}
 use Rattle.visitor.specs.declared.ord_index.OrdIndexVisitor.{OrdIndexVisitor}
 use Rattle.visitor.specs.declared.index.IndexVisitor.{IndexVisitor}
 
 -- ---- what a search tells of the walk ----
 -- the answer of a walk with tally n, allowed k, that ends at place r; b says whether the key is there
-abbrev told : ℕ → ℕ → Bool → ℕ → Answer
-told n k b r = cond (leb n k) (answer 0 (cond b 1 0) r 0 n) (answer 10 0 0 0 k)
+abbrev walk-answer : ℕ → ℕ → Bool → ℕ → Answer
+walk-answer n k b r = cond (leb n k) (searched b r n) (beyond k)
 
 module _ (S : State) (a t k : ℕ) (l : a < length (S .lists)) where
   abbrev xs : List Node
   xs = listOf S a
 
-  search-told : answerTo S (search a t k) ≡ told (tally (S .levels) t xs) k (keyIs t (drop (ends (S .levels) t xs) xs)) (ends (S .levels) t xs)
+  search-told : answerTo S (search a t k) ≡ walk-answer (tally (S .levels) t xs) k (keyIs t (drop (ends (S .levels) t xs) xs)) (ends (S .levels) t xs)
   search-told = elim (test (tally (S .levels) t xs) k) [
     | hit e p ↦ rw (lt-ltb a (length (S .lists)) l, walk-tally (S .levels) t xs, e, walk-found (S .levels) t xs, walk-place (S .levels) t xs) refl
     | miss e p ↦ rw (lt-ltb a (length (S .lists)) l, walk-tally (S .levels) t xs, e) refl
@@ -50,13 +50,13 @@ bit false false e = refl
 bit true false e = absurd (omega arith)
 bit false true e = absurd (omega arith)
 
-pub record Told (n k : ℕ) (b : Bool) (r : ℕ) (met : Bool) (i j : ℕ) : Type 0 where
+pub record Opened (n k : ℕ) (b : Bool) (r : ℕ) (met : Bool) (i j : ℕ) : Type 0 where
   pub within : n ≤ k
   pub is : b ≡ met
   pub place : r ≡ i
   pub spent : n ≡ j
 
-opened : {n k : ℕ} {b : Bool} {r : ℕ} (met : Bool) (i j : ℕ) → answer 0 (cond met 1 0) i 0 j ≡ told n k b r → Told n k b r met i j
+opened : {n k : ℕ} {b : Bool} {r : ℕ} (met : Bool) (i j : ℕ) → searched met i j ≡ walk-answer n k b r → Opened n k b r met i j
 opened {n} {k} {b} {r} met i j h = elim (test n k) [
   | hit e p ↦
       let q = rw e at h in
@@ -64,7 +64,7 @@ opened {n} {k} {b} {r} met i j h = elim (test n k) [
   | miss e p ↦ absurd (omega (arith, ap (λ (x : Answer). x .number) (rw e at h)))
 ]
 
-refused-over : (n k : ℕ) (b : Bool) (r j : ℕ) → answer 10 0 0 0 j ≡ told n k b r → k < n
+refused-over : (n k : ℕ) (b : Bool) (r j : ℕ) → beyond j ≡ walk-answer n k b r → k < n
 refused-over n k b r j h = elim (test n k) [
   | hit e p ↦ absurd (omega (arith, ap (λ (x : Answer). x .number) (rw e at h)))
   | miss e p ↦ p
@@ -88,7 +88,7 @@ module _ {w : List ℕ} {m a : ℕ} (g : Listed w m a) (t k : ℕ) where
       by-case true z p = omega (arith, found-is t (nodes w a) (sorted-list (decode w) (g .passes .sound) a) z .within)
       by-case false z p = omega (arith, smaller-le t (nodes w a))
 
-  ends-told : (met : Bool) (i n : ℕ) → answer 0 (cond met 1 0) i 0 n ≡ answerTo (decode w) (search a t k) → Ends m t k (nodes w a) met i n
+  ends-told : (met : Bool) (i n : ℕ) → searched met i n ≡ answerTo (decode w) (search a t k) → Ends m t k (nodes w a) met i n
   ends-told met i n h =
       let o = opened met i n (h ∙ search-told (decode w) a t k (g .list)) in
       let e : ends m t (nodes w a) ≡ i = rw (g .levels) (o .place) in
@@ -133,7 +133,8 @@ module _ (w : List ℕ) (m : ℕ) (v : OrdIndexVisitor) where
   abbrev by-end : End → OrdIndexVisitor
   by-end e = cond (leb (ended e .tally) (v .left)) (keyEnd w v (ended e) (isFound e)) (keyOver v)
 
-  pub visit-ends : (met : Bool) {i n r : ℕ} {x : OrdIndexVisitor} → Ends m (v .target) (v .left) ys met i n → r ≡ cond met (suc i) i → x ≡ keyEnd w v (stand r n) met → x ≡ keyVisit w m v
+  pub visit-ends : (met : Bool) {i n r : ℕ} {x : OrdIndexVisitor} → Ends m (v .target) (v .left) ys met i n → r ≡ cond met (suc i) i → x ≡ keyEnd w v (stand r n) met
+      → x ≡ keyVisit w m v
   visit-ends true {n} e p q = (rw p at q) ∙ sym (ap by-end (e .walk) ∙ (rw (le-leb n (v .left) (e .within)) refl))
   visit-ends false {n} e p q = (rw p at q) ∙ sym (ap by-end (e .walk) ∙ (rw (le-leb n (v .left) (e .within)) refl))
 

@@ -15,7 +15,8 @@ use prog.Wp.{Heap, Calls, Loops, WpFn, Tables}
 use ghost.Atoms.{Atoms, sem}
 use contract.Lifetimes.{AllOutlive}
 use contract.Monad.{fact}
-use types.Kit.{Given, ‵, raw, _⊛_, ⋆, some, later, given, learn, check, _$_, _∵_, !, qed, by, move, keep, drop, use1, use2, use3, split, join, pick, rewrite, fsplit, fjoin, fpick, fpack, feqL, suffices, frame, await, done}
+use types.Kit.{Given, ‵, raw, _⊛_, ⋆, some, later, given, learn, check, _$_, _∵_, !, qed, by, move, keep, drop, use1, use2}
+use types.Kit.{use3, split, join, pick, rewrite, fsplit, fjoin, fpick, fpack, feqL, suffices, frame, await, done}
 use types.Tokens.{lft-new, lft-end}
 use types.Run.{look, init, forget, stop, from, load, addr, of-opd, and-then, no-more, assigns, land, returns, enter, alloc1, alloc0, params1, pass1, pass0, free1, free0}
 use types.SemTy.{Body}
@@ -40,9 +41,9 @@ use denote.Triple.Walked.{says, needs, Stays, stay-none, stay-none-slice, walkOf
 use denote.Exit.{yes}
 use denote.Triple.Clauses.{ensured, lasts, Lasts, closing}
 use mir.Syntax.{Name}
-use Rattle.visitor.proofs.Shapes.{Walk, Vis, low, τ, back-signature, back-ended, back-clauses, stored-signature, stored-ended, stored-clauses, lent}
+use Rattle.visitor.proofs.Shapes.{PlainWalk, Vis, low, τ, back-signature, back-ended, back-clauses, stored-signature, stored-ended, stored-clauses, lent}
 
-module _ (X : Walk) (callee : Name) where
+module _ (X : PlainWalk) (callee : Name) where
   abbrev stayed : Stays (back-ended X .signature .params) (back-ended X .kept)
   stayed = (stay-none (λ _. Vis X) yes, (stay-none-slice (0 ∷ []) tt (plain (λ _. u32)) yes, (stay-none (λ _. usize) yes, tt)))
 
@@ -58,7 +59,8 @@ module _ (X : Walk) (callee : Name) where
     comes-out : ent 𝓤 (sem 𝓤 H A (partAt (Vis X) fullShare v l 0)) (guard 𝓤 (Is (Vis X) v (low X v ∷ [])) (H .at fullShare (τ X) l 0 (low X v)))
     unfolding partOf
     comes-out =
-        qed W (‵ (partAt (Vis X) fullShare v l 0) ∷ []) ∵ fpick ! (λ vs. fsplit ! $ spelt ! (Vis X) (Is (Vis X)) (shows 𝓤 H A (Vis X)) (LL.vals (X .type) (X .laws)) (LL.tells (X .type) (X .laws)) fullShare v vs l 0 $
+        qed W (‵ (partAt (Vis X) fullShare v l 0) ∷ []) ∵ fpick ! (λ vs. fsplit ! $
+        spelt ! (Vis X) (Is (Vis X)) (shows 𝓤 H A (Vis X)) (LL.vals (X .type) (X .laws)) (LL.tells (X .type) (X .laws)) fullShare v vs l 0 $
         move ! (1 ∷ []) $ peeks ! (Vis X) (Is (Vis X)) (shows 𝓤 H A (Vis X)) v (low X v ∷ []) (λ is. drop ! $
         use1 W (‵ (fat fullShare (τ X) l 0 (low X v))) (W .laws .raw-at fullShare (τ X) l 0 (low X v)) $ check ! is $ done !))
 
@@ -67,7 +69,8 @@ module _ (X : Walk) (callee : Name) where
     abbrev Stored : Contract 𝓤
     Stored = tripleOf 𝓤 H A (stored-signature X) (closing 𝓤 H A (stored-ended X) (stored-clauses X 𝓤))
 
-  module _ {M : Type 1} (𝓤 : URA M) (H : Heap 𝓤) (A : Atoms 𝓤) (W : Given 𝓤 H A) (κ : Lft) (bounds : AllOutlive 1 (back-signature X .outlives) (κ, tt)) (q : Share) (h : X .type .D) (w : RefT (List ℕ)) (n : ℕ) where
+  module _ {M : Type 1} (𝓤 : URA M) (H : Heap 𝓤) (A : Atoms 𝓤) (W : Given 𝓤 H A) (κ : Lft) (bounds : AllOutlive 1 (back-signature X .outlives) (κ, tt)) (q : Share)
+      (h : X .type .D) (w : RefT (List ℕ)) (n : ℕ) where
     abbrev a : X .type .D × (RefT (List ℕ) × (ℕ × Unit {0}))
     a = (h, (w, (n, tt)))
 
@@ -102,7 +105,8 @@ module _ (X : Walk) (callee : Name) where
       to = (((α ∷ [], (κ, tt)), (fullShare, (q, tt)), tt, lent-args, passed), tt)
 
       asked : X .Ready (w .now) n h → n < 2 ^ 64
-          → ent 𝓤 (⋆ 𝓤 H A (‵ (flft (α ∷ []) fullShare) ∷ ‵ (MutRef (named 0) (α ∷ []) (Vis X) .own ref (vptr l 0 ∷ [])) ∷ ((‵ (flft κ q) ⊛ ‵ ftrue) ⊛ ‵ Own) ∷ [])) (sep 𝓤 (Stored 𝓤 H A .pre to) (sem 𝓤 H A Own))
+          → ent 𝓤 (⋆ 𝓤 H A (‵ (flft (α ∷ []) fullShare) ∷ ‵ (MutRef (named 0) (α ∷ []) (Vis X) .own ref (vptr l 0 ∷ [])) ∷ ((‵ (flft κ q) ⊛ ‵ ftrue) ⊛ ‵ Own) ∷ []))
+          (sep 𝓤 (Stored 𝓤 H A .pre to) (sem 𝓤 H A Own))
       asked ok fits =
           qed W (‵ (flft (α ∷ []) fullShare) ∷ ‵ (MutRef (named 0) (α ∷ []) (Vis X) .own ref (vptr l 0 ∷ [])) ∷ ((‵ (flft κ q) ⊛ ‵ ftrue) ⊛ ‵ Own) ∷ []) ∵
           move ! (2 ∷ []) $ split ! $ move ! (1 ∷ []) $ use1 W (‵ Own ⊛ ‵ Own) (shr-slice-copy 𝓤 H A W (named 1) κ u32 .twice w (wv ∷ [])) $ split ! $
@@ -112,41 +116,53 @@ module _ (X : Walk) (callee : Name) where
           move ! (3 ∷ 2 ∷ []) $ join ! $ use2 W (raw (Stored 𝓤 H A .pre to)) goes $ frame ! $ done !
         where
           goes : ent 𝓤 (onEntry 𝓤 H A (stored-signature X) (α ∷ [], (κ, tt)) (fullShare, (q, tt)) lent-args passed) (Stored 𝓤 H A .pre to)
-          goes = qed W ((‵ (flft (α ∷ []) fullShare) ⊛ ‵ (flft κ q) ⊛ ‵ ftrue) ∷ ‵ (owns (MutRef (named 0) (α ∷ []) (Vis X) ∷ ShrSlice (named 1) κ u32 ∷ usize ∷ []) lent-args passed) ∷ []) ∵ says ! ok $ frame ! $ done !
+          goes =
+              qed W ((‵ (flft (α ∷ []) fullShare) ⊛ ‵ (flft κ q) ⊛ ‵ ftrue)
+              ∷ ‵ (owns (MutRef (named 0) (α ∷ []) (Vis X) ∷ ShrSlice (named 1) κ u32 ∷ usize ∷ []) lent-args passed) ∷ []) ∵ says ! ok $ frame ! $ done !
 
       -- of the callee's `ensured`, the reference's last value
       said : (r : Unit {0}) → ent 𝓤 (ensured 𝓤 H A (stored-ended X) (stored-clauses X 𝓤) (α ∷ [], (κ, tt)) lent-args tt r) (sem 𝓤 H A (fres δ (Vis X .coded .code found)))
       said r =
-          qed W (some (λ (ws : Lasts (stored-ended X) (α ∷ [], (κ, tt)) lent-args). ‵ (lasts (stored-ended X) (α ∷ [], (κ, tt)) lent-args ws) ⊛ raw (fact 𝓤 (ws .0 ≡ found))) ∷ []) ∵
-          pick ! (λ ws. split ! $ move ! (1 ∷ []) $ heard ! (ws .0 ≡ found) (λ e. fsplit ! $ rewrite ! 0 (λ (y : X .type .D). ‵ (fres δ (Vis X .coded .code y))) e refl $ keep ! (0 ∷ []) $ done !))
+          qed W (some (λ (ws : Lasts (stored-ended X) (α ∷ [], (κ, tt)) lent-args). ‵ (lasts (stored-ended X) (α ∷ [], (κ, tt)) lent-args ws)
+          ⊛ raw (fact 𝓤 (ws .0 ≡ found))) ∷ []) ∵
+          pick ! (λ ws. split ! $ move ! (1 ∷ []) $ heard ! (ws .0 ≡ found) (λ e. fsplit ! $ rewrite ! 0 (λ (y : X .type .D). ‵ (fres δ (Vis X .coded .code y))) e refl $
+          keep ! (0 ∷ []) $ done !))
 
     exits : Is (Vis X) h (low X h ∷ []) → Is (Vis X) found (low X found ∷ []) → n < 2 ^ 64 → ent 𝓤 (⋆ 𝓤 H A ((‵ (flft κ q) ⊛ ‵ ftrue) ∷ ‵ Own ∷ [])) (Post (low X found))
     exits was is fits =
         qed W ((‵ (flft κ q) ⊛ ‵ ftrue) ∷ ‵ Own ∷ []) ∵
-        suffices ! _ (ends-at 𝓤 H A (back-ended X) stayed (back-clauses X 𝓤) W (((κ, tt), (q, tt), bounds, a, at), tt) (low X found) found (X .last h, (tt, (tt, tt))) (tt, (tt, (tt, tt)))) $ says ! refl $
-        frame ! $ nothing ! $ owned ! usize (Is usize) (uint-makes 𝓤 H A W w64) n _ (refl, fits) $ fjoin ! $ move ! (1 ∷ 0 ∷ []) $ fjoin ! $ owned ! (Vis X) (Is (Vis X)) (LL.makes (X .type) (X .plain-data) 𝓤 H A) h _ was $ fjoin ! $
+        suffices ! _ (ends-at 𝓤 H A (back-ended X) stayed (back-clauses X 𝓤) W (((κ, tt), (q, tt), bounds, a, at), tt) (low X found) found (X .last h, (tt, (tt, tt)))
+        (tt, (tt, (tt, tt)))) $ says ! refl $
+        frame ! $ nothing ! $ owned ! usize (Is usize) (uint-makes 𝓤 H A W w64) n _ (refl, fits) $ fjoin ! $ move ! (1 ∷ 0 ∷ []) $ fjoin ! $
+        owned ! (Vis X) (Is (Vis X)) (LL.makes (X .type) (X .plain-data) 𝓤 H A) h _ was $ fjoin ! $
         owned ! (Vis X) (Is (Vis X)) (LL.makes (X .type) (X .plain-data) 𝓤 H A) found _ is $ move ! (1 ∷ 0 ∷ []) $ done !
 
     module _ (C : Calls 𝓤 H) (Λ : Loops 𝓤 H) (fm : FmC 𝓤 H (W .laws) C) (known : Triple 𝓤 (C callee) (Stored 𝓤 H A)) where
       walk : Is (Vis X) h (low X h ∷ []) → Is (ShrSlice (named 0) κ u32) w (wv ∷ []) → n < 2 ^ 64 → X .Ready (w .now) n h
           → ent 𝓤 (onEntry 𝓤 H A (back-signature X) (κ, tt) (q, tt) a at) (WpFn 𝓤 H C Λ (lent X callee) (low X h ∷ wv ∷ vint w64 n ∷ []) Post)
       walk was p gn ok =
-          qed W ((‵ (flft κ q) ⊛ ‵ ftrue) ∷ ‵ (owns (Vis X ∷ ShrSlice (named 0) κ u32 ∷ usize ∷ []) a at) ∷ []) ∵ move ! (1 ∷ []) $ fsplit ! $ drop ! $ fsplit ! $ move ! (1 ∷ []) $ drop ! $
+          qed W ((‵ (flft κ q) ⊛ ‵ ftrue) ∷ ‵ (owns (Vis X ∷ ShrSlice (named 0) κ u32 ∷ usize ∷ []) a at) ∷ []) ∵ move ! (1 ∷ []) $ fsplit ! $ drop ! $ fsplit ! $
+          move ! (1 ∷ []) $ drop ! $
           -- [what w owns; w's token]
           enter ! C Λ (lent X callee) (low X h ∷ wv ∷ vint w64 n ∷ []) _ $
           alloc1 ! (λ l₀. alloc1 ! (λ l₁. alloc1 ! (λ l₂. alloc1 ! (λ l₃. alloc1 ! (λ l₄. alloc1 ! (λ l₅. alloc1 ! (λ l₆. alloc0 ! $ params1 ! $
-          pass1 ! (init ! 10 refl (LL.lawful (X .type) (X .laws) 𝓤 H A W .typed h _ was .0)) $ pass1 ! (init ! 8 refl (shr-slice-lawful 𝓤 H A W (named 0) κ u32 .typed w (wv ∷ []) p .0)) $ pass1 ! (init ! 6 refl (tt, record { fits = gn })) $ pass0 ! $
+          pass1 ! (init ! 10 refl (LL.lawful (X .type) (X .laws) 𝓤 H A W .typed h _ was .0)) $
+          pass1 ! (init ! 8 refl (shr-slice-lawful 𝓤 H A W (named 0) κ u32 .typed w (wv ∷ []) p .0)) $ pass1 ! (init ! 6 refl (tt, record { fits = gn })) $ pass0 ! $
           -- [_6; …; _5; …; _4; …; _3; …; _2; …; _1; …; _0; …; what w owns; w's token]
           assigns ! (of-opd ! (load ! (from ! (stop !)) (look ! 10 refl))) (from ! (stop !)) (init ! 4 refl (LL.lawful (X .type) (X .laws) 𝓤 H A W .typed h _ was .0)) $
           assigns ! (addr ! (from ! (stop !))) (from ! (stop !)) (init ! 0 refl (tt, tt)) $
           -- the local is lent for a new lifetime
           move ! (4 ∷ []) $ use1 W (‵ (partAt (Vis X) fullShare h l₄ 0)) (goes-in 𝓤 H A W h l₄ was) $ lft-new ! tt (λ α. move ! (1 ∷ []) $
-          use1 W (later (some (λ (δ : GName). ‵ (MutRef (named 0) (α ∷ []) (Vis X) .own (ref α l₄ δ) (vptr l₄ 0 ∷ [])) ⊛ ‵ (flent (α ∷ []) (Body (mem (Vis X)) l₄ 0 δ))))) (lends-ref 𝓤 H A W (Vis X) (named 0) (α ∷ []) h l₄ 0) $ await ! tt $ pick ! (λ δ. split ! $
+          use1 W (later (some (λ (δ : GName). ‵ (MutRef (named 0) (α ∷ []) (Vis X) .own (ref α l₄ δ) (vptr l₄ 0 ∷ [])) ⊛ ‵ (flent (α ∷ []) (Body (mem (Vis X)) l₄ 0 δ)))))
+          (lends-ref 𝓤 H A W (Vis X) (named 0) (α ∷ []) h l₄ 0) $ await ! tt $ pick ! (λ δ. split ! $
           -- [the reference; the lender's part; the token; _6; …; _5; …; the end of _4; _3; …; _2; …; _1; …; _0; …; what w owns; w's token]
           move ! (17 ∷ 16 ∷ []) $ join ! $ move ! (3 ∷ 1 ∷ 0 ∷ []) $ use3 W (raw (Stored 𝓤 H A .pre (to α l₄ δ)) ⊛ ‵ Own) (asked α l₄ δ ok gn) $ split ! $
           -- [pre; what w owns; the lender's part; _6; …; _5; …; the end of _4; _3; …; _2; …; _1; …; _0; …]
-          calls-at ! fm (Stored 𝓤 H A) known (to α l₄ δ) (and-then ! (load ! (from ! (stop !)) (look ! 3 refl)) (and-then ! (load ! (from ! (stop !)) (look ! 10 refl)) (and-then ! (load ! (from ! (stop !)) (look ! 8 refl)) (no-more !)))) (λ u.
-          use1 W (later (some (λ (r : Unit {0}). ((‵ (flft (α ∷ []) fullShare) ⊛ ‵ (flft κ q) ⊛ ‵ ftrue) ⊛ ‵ (unit .own r (u ∷ []))) ⊛ raw (ensured 𝓤 H A (stored-ended X) (stored-clauses X 𝓤) (α ∷ [], (κ, tt)) (lent-args α l₄ δ) tt r)))) (id⊢ 𝓤 _) $ await ! tt $ pick ! (λ r.
+          calls-at ! fm (Stored 𝓤 H A) known (to α l₄ δ)
+          (and-then ! (load ! (from ! (stop !)) (look ! 3 refl))
+          (and-then ! (load ! (from ! (stop !)) (look ! 10 refl)) (and-then ! (load ! (from ! (stop !)) (look ! 8 refl)) (no-more !)))) (λ u.
+          use1 W (later (some (λ (r : Unit {0}). ((‵ (flft (α ∷ []) fullShare) ⊛ ‵ (flft κ q) ⊛ ‵ ftrue) ⊛ ‵ (unit .own r (u ∷ [])))
+          ⊛ raw (ensured 𝓤 H A (stored-ended X) (stored-clauses X 𝓤) (α ∷ [], (κ, tt)) (lent-args α l₄ δ) tt r)))) (id⊢ 𝓤 _) $ await ! tt $ pick ! (λ r.
           split ! $ move ! (1 ∷ []) $ use1 W (‵ (fres δ (Vis X .coded .code found))) (said α l₄ δ r) $ move ! (1 ∷ []) $ split ! $ move ! (1 ∷ []) $ feqL ! (λ e. split ! $
           -- [the token; w's token; the last value; what w owns; the lender's part; _6; …; _5; …; the end of _4; _3; …; _2; …; _1; …; _0; …]
           land ! (from ! (stop !)) (init ! 7 refl (subst (λ (y : Val). T (hasTy tyUnit y) × WT y) (sym (ap only e)) (tt, tt))) $
@@ -156,16 +172,23 @@ module _ (X : Walk) (callee : Name) where
           -- [_4; w's token; what w owns; _6; …; _5; …; the end of _4; _3; …; _2; …; _1; …; _0; …]
           assigns ! (of-opd ! (load ! (from ! (stop !)) (look ! 0 refl))) (from ! (stop !)) (init ! 14 refl (LL.lawful (X .type) (X .laws) 𝓤 H A W .typed found _ is .0)) $
           returns ! (look ! 14 refl) $ forget ! 0 refl $ forget ! 3 refl $ forget ! 5 refl $ forget ! 8 refl $ forget ! 10 refl $ forget ! 12 refl $ forget ! 14 refl $
-          move ! (14 ∷ 15 ∷ []) $ free1 ! $ move ! (12 ∷ 13 ∷ []) $ free1 ! $ move ! (10 ∷ 11 ∷ []) $ free1 ! $ move ! (8 ∷ 9 ∷ []) $ free1 ! $ move ! (0 ∷ 7 ∷ []) $ free1 ! $ move ! (4 ∷ 5 ∷ []) $ free1 ! $ move ! (2 ∷ 3 ∷ []) $ free1 ! $ free0 ! $
+          move ! (14 ∷ 15 ∷ []) $ free1 ! $ move ! (12 ∷ 13 ∷ []) $ free1 ! $ move ! (10 ∷ 11 ∷ []) $ free1 ! $ move ! (8 ∷ 9 ∷ []) $ free1 ! $ move ! (0 ∷ 7 ∷ []) $ free1 ! $
+          move ! (4 ∷ 5 ∷ []) $ free1 ! $ move ! (2 ∷ 3 ∷ []) $ free1 ! $ free0 ! $
           by ! (exits was is gn))))))))))))))
 
   module _ {M : Type 1} (𝓤 : URA M) (H : Heap 𝓤) (A : Atoms 𝓤) (W : Given 𝓤 H A) where
-    lend-walks : (C : Calls 𝓤 H) (Λ : Loops 𝓤 H) → FmC 𝓤 H (W .laws) C → Triple 𝓤 (C callee) (Stored 𝓤 H A) → Walks 𝓤 H A (back-ended X) stayed (WpFn 𝓤 H C Λ (lent X callee)) (back-clauses X 𝓤)
-    lend-walks C Λ fm known = walked 𝓤 H A (back-ended X) stayed (back-clauses X 𝓤) (WpFn 𝓤 H C Λ (lent X callee)) (λ κs. (LL.vals (X .type) (X .laws), (slice-vals, (uint-vals w64, tt)))) (λ κs. (LL.tells (X .type) (X .laws), (shr-slice-tells (named 0) (κs .0) u32, (uint-tells w64, tt))))
+    lend-walks : (C : Calls 𝓤 H) (Λ : Loops 𝓤 H) → FmC 𝓤 H (W .laws) C → Triple 𝓤 (C callee) (Stored 𝓤 H A)
+        → Walks 𝓤 H A (back-ended X) stayed (WpFn 𝓤 H C Λ (lent X callee)) (back-clauses X 𝓤)
+    lend-walks C Λ fm known =
+        walked 𝓤 H A (back-ended X) stayed (back-clauses X 𝓤) (WpFn 𝓤 H C Λ (lent X callee)) (λ κs. (LL.vals (X .type) (X .laws), (slice-vals, (uint-vals w64, tt))))
+        (λ κs. (LL.tells (X .type) (X .laws), (shr-slice-tells (named 0) (κs .0) u32, (uint-tells w64, tt))))
         (λ κs qs bounds a g are. needs 𝓤 _ _ (walk 𝓤 H A W (κs .0) bounds (qs .0) (a .0) (a .1 .0) (a .1 .1 .0) C Λ fm known (are .0) (are .1 .0) (are .1 .1 .0 .1)))
 
   pub lend-meets : {M : Type 1} (𝓤 : URA M) (H : Heap 𝓤) (A : Atoms 𝓤) → Given 𝓤 H A → (𝓣 : Tables 𝓤 H) → Triple 𝓤 (𝓣 .C callee) (Stored 𝓤 H A)
       → Meets 𝓤 H A (back-signature X) (WpFn 𝓤 H (𝓣 .C) (𝓣 .Λ) (lent X callee)) (closing 𝓤 H A (back-ended X) (back-clauses X 𝓤))
   lend-meets 𝓤 H A W 𝓣 known =
-      walk-meets 𝓤 H A (back-ended X) stayed W (goes-none 𝓤 H A W 1 (λ _. Vis X) yes (λ κs x f. X .silent x f), (goes-none-slice 𝓤 H A W 1 (0 ∷ []) tt (plain (λ _. u32)) yes, (goes-none 𝓤 H A W 1 (λ _. usize) yes (λ κs x f. refl), tt))) (back-clauses X 𝓤)
+      walk-meets 𝓤 H A (back-ended X) stayed W (
+        goes-none 𝓤 H A W 1 (λ _. Vis X) yes (λ κs x f. X .silent x f),
+        (goes-none-slice 𝓤 H A W 1 (0 ∷ []) tt (plain (λ _. u32)) yes, (goes-none 𝓤 H A W 1 (λ _. usize) yes (λ κs x f. refl), tt)),
+      ) (back-clauses X 𝓤)
       (WpFn 𝓤 H (𝓣 .C) (𝓣 .Λ) (lent X callee)) (WpFn-mono 𝓤 H (W .laws) 𝓣 (lent X callee)) (lend-walks 𝓤 H A W (𝓣 .C) (𝓣 .Λ) (fmOf 𝓤 H (W .laws) 𝓣) known)

@@ -4,4 +4,4 @@ pub mod Ends
 pub mod Shapes
 pub mod Storing
 pub mod Lending
-pub mod Walks
+pub mod BothWalks

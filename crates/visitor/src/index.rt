@@ -2,7 +2,7 @@
 ghost use mathlib.Core.Path.{_≡_};
 ghost use mathlib.Core.Bool.{false};
 ghost use Rattle.arena.specs.Owners.{Listed};
-ghost use Rattle.visitor.specs.Visits.{rankVisit};
+ghost use Rattle.visitor.specs.Visited.{rankVisit};
 use arena::Index;
 use arena::Rank;
 use arena::Slot;
@@ -33,10 +33,10 @@ impl IndexVisitor {
     {
         let head = self.current;
         let target = self.target;
-        let n = walk::length(w, m, head);
+        let n = rank_walk::length(w, m, head);
         if n < target.0 {
             let rank = Rank::before(Index(n));
-            let current = walk::reach(w, m, head, rank);
+            let current = rank_walk::reach(w, m, head, rank);
             return IndexVisitor {
                 current,
                 rank,
@@ -44,7 +44,7 @@ impl IndexVisitor {
                 found: false,
             };
         }
-        let current = walk::reach(w, m, head, target);
+        let current = rank_walk::reach(w, m, head, target);
         IndexVisitor {
             current,
             rank: target,

@@ -6,23 +6,24 @@ ghost use lib.ListN.{length};
 ghost use Rattle.model.specs.Passes.{nodes};
 ghost use Rattle.model.specs.Walks.{stand};
 ghost use Rattle.arena.specs.Owners.{Listed};
-ghost use Rattle.visitor.specs.Visits.{keyEnd, keyVisit};
+ghost use Rattle.visitor.specs.Visited.{keyEnd, keyVisit};
+use arena::Key;
 use arena::Rank;
 use arena::Slot;
-use walk::Searched;
+use key_walk::Searched;
 
 // Before the walk `current` is the head of the list. `left` is the number of comparisons left; `over` says that the walk asked for more.
 pub struct OrdIndexVisitor {
     pub current: Slot,
     pub rank: Rank,
-    pub target: u32,
+    pub target: Key,
     pub left: u32,
     pub found: bool,
     pub over: bool,
 }
 
 impl OrdIndexVisitor {
-    pub fn new(head: Slot, target: u32, allowance: u32) -> OrdIndexVisitor
+    pub fn new(head: Slot, target: Key, allowance: u32) -> OrdIndexVisitor
         ensures { λ r. ⌜ (r .current ≡ head) × (r .rank .0 ≡ 0) × (r .target ≡ target) × (r .left ≡ allowance) × (r .found ≡ false) × (r .over ≡ false) ⌝ }
     {
         OrdIndexVisitor {
@@ -40,7 +41,7 @@ impl OrdIndexVisitor {
         requires { ⌜ Listed (now w) m (self .current .0) × (rank .0 ≤ length (nodes (now w) (self .current .0))) × (n ≤ self .left) ⌝ }
         ensures { λ r. ⌜ r ≡ keyEnd (now (w .entry)) self (stand (rank .0) n) found ⌝ }
     {
-        let current = walk::reach(w, m, self.current, rank);
+        let current = rank_walk::reach(w, m, self.current, rank);
         OrdIndexVisitor {
             current,
             rank,
@@ -56,7 +57,7 @@ impl OrdIndexVisitor {
         ensures { λ r. ⌜ r ≡ keyVisit (now (w .entry)) m self ⌝ }
     {
         let head = self.current;
-        match walk::search(w, m, head, self.target, self.left) {
+        match key_walk::search(w, m, head, self.target, self.left) {
             Searched::Found(i, n) => self.ended(w, m, Rank::from_index(i), n, true),
             Searched::Missing(i, n) => self.ended(w, m, Rank::before(i), n, false),
             Searched::Beyond(_) => OrdIndexVisitor {

@@ -5,6 +5,7 @@ mod printing;
 
 ghost use Rattle.model.specs.Passes.{Passes};
 ghost use Rattle.arena.specs.Owners.{Listed};
+use arena::Key;
 use arena::Rank;
 use arena::Slot;
 use visitor::IndexVisitor;
@@ -19,11 +20,11 @@ fn levels(w: &[u32]) -> usize
     arena::wide(arena::header(w, arena::LEVELS_WORD))
 }
 
-fn by_key(w: &[u32], m: usize, key: u32, allowance: u32)
+fn by_key(w: &[u32], m: usize, key: Key, allowance: u32)
     requires { ⌜ Listed (now w) m 0 ⌝ }
 {
     let v = OrdIndexVisitor::new(LIST, key, allowance);
-    printing::search(key, walk::search(w, m, LIST, key, allowance));
+    printing::search(key, key_walk::search(w, m, LIST, key, allowance));
     printing::key_visit(b"  given back", allowance, v.traversed(w, m));
     printing::key_visit(b"  lent", allowance, v.lent(w, m));
 }
@@ -32,7 +33,7 @@ fn by_rank(w: &[u32], m: usize, target: Rank)
     requires { ⌜ Listed (now w) m 0 ⌝ }
 {
     let v = IndexVisitor::new(LIST, target);
-    printing::reached(target, walk::by_rank(w, m, LIST, target));
+    printing::reached(target, rank_walk::by_rank(w, m, LIST, target));
     printing::rank_visit(b"  given back", v.traversed(w, m));
     printing::rank_visit(b"  lent", v.lent(w, m));
 }
@@ -74,6 +75,7 @@ fn visit(w: &[u32]) {
 }
 
 fn main() {
-    let w = arena_of_q::words();
+    let mut w = [0u32; 48];
+    arena_of_q::write(&mut w);
     visit(&w);
 }

@@ -1,11 +1,12 @@
 // What a walk answers, as a line: by key `found place tally`, or `beyond` with the tally; by rank `slot rank`, or `none`.
+use arena::Key;
 use arena::Rank;
+use key_walk::Searched;
+use rank_walk::Ended;
+use rank_walk::Reached;
 use script::Text;
 use visitor::IndexVisitor;
 use visitor::OrdIndexVisitor;
-use walk::Ended;
-use walk::Reached;
-use walk::Searched;
 
 fn one(a: u32) {
     Text::new().byte(b' ').decimal(a).print();
@@ -28,7 +29,7 @@ fn beyond(tally: u32) {
     end();
 }
 
-pub fn search(key: u32, s: Searched) {
+pub fn search(key: Key, s: Searched) {
     io::write_all(1, b"search");
     one(key);
     io::write_all(1, b":");

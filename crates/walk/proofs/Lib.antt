@@ -1,6 +1,3 @@
-pub mod Looks
-pub mod Seeking
-pub mod Ranked
+pub mod Standing
 pub mod Ahead
-pub mod Answering
-pub mod Tracing
+pub mod Noting

@@ -5,21 +5,16 @@ use mathlib.Core.List.{List}
 use lib.ListN.{length, take}
 use Rattle.model.specs.Walks.{last}
 use Rattle.model.specs.Passes.{decode, nodes}
-use Rattle.model.specs.Cells.{baseOf}
 use Rattle.arena.specs.Owners.{Owner}
 
 -- Slot s is at rank r of list a, has the links below h, and r is no further than rank i.
-pub record At (w : List ℕ) (m a i h s r : ℕ) : Type 0 where
+pub record Standing (w : List ℕ) (m a i h s r : ℕ) : Type 0 where
   pub owner : Owner w a r s h
   pub levels : m ≡ decode w .levels
   pub before : r ≤ i
   pub within : i ≤ length (nodes w a)
 
--- The record of slot s begins at word `base`.
-pub record Placed (m s base : ℕ) : Type 0 where
-  pub is : base ≡ baseOf m s
-
--- A walk by rank along stage h has stopped: slot s is the last owner of height h that is no further than rank i.
+-- A walk along stage h has stopped: slot s is the last owner of height h that is no further than rank i.
 pub record Sought (w : List ℕ) (m a i h s r : ℕ) : Type 0 where
-  pub at : At w m a i h s r
+  pub stands : Standing w m a i h s r
   pub last-one : r ≡ last h (take i (nodes w a))

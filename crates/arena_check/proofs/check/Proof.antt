@@ -1,6 +1,6 @@
 -- `arena_check::check` meets its contract: whole words are those of an arena that passes.
 use borrow.Author.Needs.{needs}
-use Rattle.arena_check.proofs.Passing.{promise}
+use Rattle.arena_check.proofs.WholePasses.{promise}
 use Rattle.arena_check.proofs.check.Statement.{statement}
 use Rattle.arena_check.proofs.check.Tie as tie
 

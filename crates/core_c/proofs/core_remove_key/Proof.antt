@@ -1,8 +1,8 @@
 -- `core_c::core_remove_key` meets its contract: the key of what the removal answers.
 use mathlib.Core.Path.{ap, sym, _∙_}
 use Rattle.model.specs.Calls.{Answer}
-use Rattle.insert_remove.specs.declared.Removed.{Removed}
-use Rattle.insert_remove.specs.Answers.{removedOf}
+use Rattle.removal.specs.declared.Removed.{Removed}
+use Rattle.removal.specs.RemovalAnswer.{removedOf}
 use borrow.Author.Needs.{needs}
 use Rattle.core_c.proofs.core_remove_key.Statement.{statement}
 use Rattle.core_c.proofs.core_remove_key.Tie as tie
@@ -21,17 +21,17 @@ same-length c = search needs
 
 returns : tie.Need-returns
 returns c =
-    let (after-remove-key, after-k) : tie.After-remove-key × tie.After-k = search in
-    let r = after-remove-key .remove-key .ensures in
-    (ap (λ (x : Removed). removedOf x .key) (sym (after-k .k .given .1)) ∙ ap (λ (x : Answer). x .key) (r .told), r .words)
+    let (done, k) : tie.After-remove-key × tie.After-k = search in
+    let r = done .remove-key .ensures in
+    (ap (λ (x : Removed). removedOf x .key) (sym (k .k .given .1)) ∙ ap (λ (x : Answer). x .key) (r .told), r .words)
 
 same-length-2 : tie.Need-same-length-2
 same-length-2 c = search needs
 
 returns-2 : tie.Need-returns-2
 returns-2 c =
-    let after-remove-key : tie.After-remove-key = search in
-    let r = after-remove-key .remove-key .ensures in
+    let done : tie.After-remove-key = search in
+    let r = done .remove-key .ensures in
     (ap (λ (x : Removed). removedOf x .key) (sym (c .enum-told .given .1)) ∙ ap (λ (x : Answer). x .key) (r .told), r .words)
 
 pub core-remove-key-spec : {M : Type 1} → statement M

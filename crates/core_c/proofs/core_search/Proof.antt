@@ -1,8 +1,8 @@
 -- `core_c::core_search` meets its contract: the place of what the walk answers.
 use mathlib.Core.Path.{ap, sym, _∙_}
 use Rattle.model.specs.Calls.{Answer}
-use Rattle.walk.specs.declared.Searched.{Searched}
-use Rattle.walk.specs.Answers.{answerOf}
+use Rattle.key_walk.specs.declared.Searched.{Searched}
+use Rattle.key_walk.specs.SearchAnswer.{answerOf}
 use borrow.Author.Needs.{needs}
 use Rattle.core_c.proofs.core_search.Statement.{statement}
 use Rattle.core_c.proofs.core_search.Tie as tie
@@ -21,18 +21,18 @@ enum-told c = search needs
 
 returns : tie.Need-returns
 returns c =
-    let (after-search, after-i) : tie.After-search × tie.After-i = search in
-    ap (λ (x : Searched). answerOf x .place) (sym (after-i .i .given .1)) ∙ ap (λ (x : Answer). x .place) (after-search .search .ensures)
+    let (walk, i) : tie.After-search × tie.After-i = search in
+    ap (λ (x : Searched). answerOf x .place) (sym (i .i .given .1)) ∙ ap (λ (x : Answer). x .place) (walk .search .ensures)
 
 returns-2 : tie.Need-returns-2
 returns-2 c =
-    let (after-search, after-i2) : tie.After-search × tie.After-i2 = search in
-    ap (λ (x : Searched). answerOf x .place) (sym (after-i2 .i2 .given .1)) ∙ ap (λ (x : Answer). x .place) (after-search .search .ensures)
+    let (walk, i) : tie.After-search × tie.After-i2 = search in
+    ap (λ (x : Searched). answerOf x .place) (sym (i .i2 .given .1)) ∙ ap (λ (x : Answer). x .place) (walk .search .ensures)
 
 returns-3 : tie.Need-returns-3
 returns-3 c =
-    let after-search : tie.After-search = search in
-    ap (λ (x : Searched). answerOf x .place) (sym (c .enum-told .given .1)) ∙ ap (λ (x : Answer). x .place) (after-search .search .ensures)
+    let walk : tie.After-search = search in
+    ap (λ (x : Searched). answerOf x .place) (sym (c .enum-told .given .1)) ∙ ap (λ (x : Answer). x .place) (walk .search .ensures)
 
 pub core-search-spec : {M : Type 1} → statement M
 core-search-spec =

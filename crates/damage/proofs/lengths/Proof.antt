@@ -18,8 +18,8 @@ array-share-prefix-w c = search needs
 
 slice-aggregate-said-2 : tie.Need-slice-aggregate-said-2
 slice-aggregate-said-2 c =
-    let after-sample : tie.After-sample = search in
-    sym (length-take-le {A = ℕ} 79 (after-sample .sample .result) (omega (arith, after-sample .sample .ensures)))
+    let w : tie.After-sample = search in
+    sym (length-take-le {A = ℕ} 79 (w .sample .result) (omega (arith, w .sample .ensures)))
 
 said-requires : tie.Need-said-requires
 said-requires c κs = search needs
@@ -32,8 +32,8 @@ array-share-prefix-w-2 c = search needs
 
 slice-aggregate-said-4 : tie.Need-slice-aggregate-said-4
 slice-aggregate-said-4 c =
-    let after-sample : tie.After-sample = search in
-    sym (length-take-le {A = ℕ} 7 (after-sample .sample .result) (omega (arith, after-sample .sample .ensures)))
+    let w : tie.After-sample = search in
+    sym (length-take-le {A = ℕ} 7 (w .sample .result) (omega (arith, w .sample .ensures)))
 
 said-requires-2 : tie.Need-said-requires-2
 said-requires-2 c κs = search needs

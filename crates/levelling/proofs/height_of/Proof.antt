@@ -19,8 +19,8 @@ loop-holds c = (omega arith, omega arith)
 
 returns : tie.Need-returns Inv-loop μ-loop
 returns c =
-    let (at-loop, in-loop) : tie.At-loop Inv-loop μ-loop × tie.In-loop Inv-loop μ-loop = search in
-    omega (arith, odd-stop (at-loop .loop .left) (at-loop .loop .rest) (in-loop .loop-test .taken) (c .if1 .taken), at-loop .loop .inv .0)
+    let (loop, turn) : tie.At-loop Inv-loop μ-loop × tie.In-loop Inv-loop μ-loop = search in
+    omega (arith, odd-stop _ _ (turn .loop-test .taken) (c .if1 .taken), loop .loop .inv .0)
 
 sub-left : tie.Need-sub-left Inv-loop μ-loop
 sub-left c = search needs
@@ -33,11 +33,15 @@ loop-less c = search needs
 
 loop-again : tie.Need-loop-again Inv-loop μ-loop
 loop-again c =
-    let (at-loop, in-loop) : tie.At-loop Inv-loop μ-loop × tie.In-loop Inv-loop μ-loop = search in
-    (omega (arith, even-turn (at-loop .loop .left) (at-loop .loop .rest) (in-loop .loop-test .taken) (c .if1 .left), at-loop .loop .inv .0), omega (arith, in-loop .loop-test .taken, at-loop .loop .inv .1))
+    let (loop, turn) : tie.At-loop Inv-loop μ-loop × tie.In-loop Inv-loop μ-loop = search in (
+      omega (arith, even-turn _ _ (turn .loop-test .taken) (c .if1 .left), loop .loop .inv .0),
+      omega (arith, turn .loop-test .taken, loop .loop .inv .1),
+    )
 
 returns-2 : tie.Need-returns-2 Inv-loop μ-loop
-returns-2 c = omega (arith, none-left (c .before .loop .left) (c .before .loop .rest) (c .loop-test .left), c .before .loop .inv .0)
+returns-2 c =
+    let loop : tie.At-loop Inv-loop μ-loop = search in
+    omega (arith, none-left (loop .loop .left) (loop .loop .rest) (c .loop-test .left), loop .loop .inv .0)
 
 pub height-of-spec : {M : Type 1} → statement M
 height-of-spec =

@@ -2,9 +2,7 @@
 use borrow.Author.Needs.{needs}
 use Prim.Native.Nat.{_-_}
 use mathlib.Core.Path.{refl}
-use native.Mathlib.Omega.{arith}
-use Rattle.model.proofs.Levels.{twos-le}
-use Rattle.levelling.proofs.Whole.{Levelling, cell-count, all-done, next-leaves, level-start, level-turn}
+use Rattle.levelling.proofs.EveryNode.{Levelling, cell-count, all-levelled, can-relevel, level-start, level-turn}
 use Rattle.levelling.proofs.level.Statement.{statement}
 use Rattle.levelling.proofs.level.Tie as tie
 
@@ -14,18 +12,14 @@ Inv-loop w₀ m list n path₀ i₀ w path i = Levelling w₀ m (list .0) n i w 
 abbrev μ-loop : tie.MeasureT-loop
 μ-loop w₀ m list n path₀ i₀ w path i = n - i
 
--- the places that the answers cite
-abbrev Start : Type 0
-Start = tie.Start Inv-loop μ-loop
-
 cell-requires : tie.Need-cell-requires Inv-loop μ-loop
 cell-requires c κs =
-    let start : Start = search in
+    let start : tie.Start Inv-loop μ-loop = search in
     cell-count (start .pre)
 
 loop-holds : tie.Need-loop-holds Inv-loop μ-loop
 loop-holds c =
-    let start : Start = search in
+    let start : tie.Start Inv-loop μ-loop = search in
     level-start (start .pre) (c .cell .ensures) refl refl refl
 
 from-index-requires : tie.Need-from-index-requires Inv-loop μ-loop
@@ -36,14 +30,8 @@ height-of-requires c κs = search needs
 
 relevel-requires : tie.Need-relevel-requires Inv-loop μ-loop
 relevel-requires c κs =
-    let known : record {
-      start : Start;
-      at-loop : tie.At-loop Inv-loop μ-loop;
-      in-loop : tie.In-loop Inv-loop μ-loop;
-      after-from-index : tie.After-from-index Inv-loop μ-loop;
-      h : tie.After-height-of Inv-loop μ-loop;
-    } = search in
-    (next-leaves (known .at-loop .loop .inv) (known .in-loop .loop-test .taken), (known .at-loop .loop .inv .leads, (known .at-loop .loop .inv .full, omega (arith, known .h .height-of .ensures, twos-le (known .start .args .m) (known .after-from-index .from-index .result .0)))))
+    let (loop, turn, h) : tie.At-loop Inv-loop μ-loop × tie.In-loop Inv-loop μ-loop × tie.After-height-of Inv-loop μ-loop = search in
+    can-relevel (loop .loop .inv) (turn .loop-test .taken) _ (h .height-of .ensures)
 
 add-i : tie.Need-add-i Inv-loop μ-loop
 add-i c = search needs
@@ -54,19 +42,22 @@ loop-less c = search needs
 loop-again : tie.Need-loop-again Inv-loop μ-loop
 loop-again c =
     let known : record {
-      at-loop : tie.At-loop Inv-loop μ-loop;
-      in-loop : tie.In-loop Inv-loop μ-loop;
-      after-from-index : tie.After-from-index Inv-loop μ-loop;
+      loop : tie.At-loop Inv-loop μ-loop;
+      turn : tie.In-loop Inv-loop μ-loop;
+      rank : tie.After-from-index Inv-loop μ-loop;
       h : tie.After-height-of Inv-loop μ-loop;
-      after-relevel : tie.After-relevel Inv-loop μ-loop;
+      node : tie.After-relevel Inv-loop μ-loop;
     } = search in
-    level-turn (known .at-loop .loop .inv) (known .in-loop .loop-test .taken) (known .after-from-index .from-index .ensures) (known .h .height-of .ensures) (known .after-relevel .relevel .ensures) (known .after-relevel .relevel .kept .0)
+    level-turn (known .loop .loop .inv) (known .turn .loop-test .taken) (known .rank .from-index .ensures) (known .h .height-of .ensures)
+    (known .node .relevel .ensures) (known .node .relevel .kept .0)
 
 same-length : tie.Need-same-length Inv-loop μ-loop
 same-length c = search needs
 
 returns : tie.Need-returns Inv-loop μ-loop
-returns c = all-done (c .before .loop .inv) (c .loop-test .left)
+returns c =
+    let loop : tie.At-loop Inv-loop μ-loop = search in
+    all-levelled (loop .loop .inv) (c .loop-test .left)
 
 pub level-spec : {M : Type 1} → statement M
 level-spec =

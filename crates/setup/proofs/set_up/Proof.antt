@@ -1,51 +1,50 @@
 -- `setup::set_up` meets its contract: a slice that fits is filled record by record, then its header; any other is left alone.
 use native.Mathlib.Omega.{arith}
-use Rattle.setup.proofs.Filling.{new-arena, accepted, refused}
 use borrow.Author.Needs.{needs}
+use Rattle.model.specs.Calls.{Room}
+use lib.ListN.{length}
+use Rattle.arena.proofs.Deciding.{yes}
+use Rattle.setup.proofs.Writing.{new-arena, set-up-accepted, set-up-refused}
 use Rattle.setup.proofs.set_up.Statement.{statement}
 use Rattle.setup.proofs.set_up.Tie as tie
-use Rattle.arena.proofs.Deciding.{yes}
+
+-- the slice fits
+abbrev start : tie.Then1 → tie.Start
+start c = search
+
+room : (c : tie.Then1) → Room (start c .args .l) (start c .args .m) (start c .args .c) (length (start c .args .w .now))
+room c =
+    let fits : tie.After-fits2 = search in
+    yes (fits .fits2 .ensures) (c .if1 .taken)
 
 fits-requires : tie.Need-fits-requires
 fits-requires c κs = search needs
 
 add-write-records : tie.Need-add-write-records
-add-write-records c =
-    let (after-fits2, then1) : tie.After-fits2 × tie.Then1 = search in
-    omega (arith, yes (after-fits2 .fits2 .ensures) (then1 .if1 .taken) .ranges)
+add-write-records c = omega (arith, room (search) .ranges)
 
 write-records-requires : tie.Need-write-records-requires
 write-records-requires c κs =
-    let (after-fits2, then1) : tie.After-fits2 × tie.Then1 = search in
-    let r = yes (after-fits2 .fits2 .ensures) (then1 .if1 .taken) in
+    let r = room (search) in
     (omega (arith, r .ranges), r .size)
 
 write-header-requires : tie.Need-write-header-requires
 write-header-requires c κs =
-    let known : record {
-      after-fits2 : tie.After-fits2;
-      then1 : tie.Then1;
-      after-write-records : tie.After-write-records;
-    } = search in
-    let r = yes (known .after-fits2 .fits2 .ensures) (known .then1 .if1 .taken) in
-    omega (arith, r .ranges, r .size, known .after-write-records .write-records .ensures .size)
+    let records : tie.After-write-records = search in
+    let r = room (search) in
+    omega (arith, r .ranges, r .size, records .write-records .ensures .size)
 
 same-length : tie.Need-same-length
 same-length c = search needs
 
 returns : tie.Need-returns
 returns c =
-    let known : record {
-      after-fits2 : tie.After-fits2;
-      then1 : tie.Then1;
-      after-write-records : tie.After-write-records;
-      after-write-header : tie.After-write-header;
-    } = search in
-    let r = yes (known .after-fits2 .fits2 .ensures) (known .then1 .if1 .taken) in
-    accepted r (new-arena r (known .after-write-records .write-records .ensures) (known .after-write-header .write-header .ensures))
+    let (records, header) : tie.After-write-records × tie.After-write-header = search in
+    let r = room (search) in
+    set-up-accepted r (new-arena r (records .write-records .ensures) (header .write-header .ensures))
 
 returns-2 : tie.Need-returns-2
-returns-2 c = refused (c .before .fits2 .ensures) (c .if1 .left)
+returns-2 c = set-up-refused (c .before .fits2 .ensures) (c .if1 .left)
 
 pub set-up-spec : {M : Type 1} → statement M
 set-up-spec =

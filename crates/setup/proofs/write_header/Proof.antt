@@ -1,8 +1,9 @@
 -- `setup::write_header` meets its contract: eight stores from the front.
-use Rattle.setup.proofs.New.{header-set, header-new}
+use mathlib.Core.Path.{refl}
 use lib.ListN.{length-set}
 use native.Mathlib.Omega.{arith}
 use borrow.Author.Needs.{needs}
+use Rattle.setup.proofs.NewModel.{header-set, header-new}
 use Rattle.setup.proofs.write_header.Statement.{statement}
 use Rattle.setup.proofs.write_header.Tie as tie
 
@@ -34,7 +35,7 @@ same-length : tie.Need-same-length
 same-length c = search needs
 
 returns : tie.Need-returns
-returns c = rw (← header-new (c .args .l) (c .args .m) (c .args .c) (c .pre .1)) (header-set (c .args .w .now) (c .pre .0) _ _ _ _ _ _ _ _)
+returns c = rw (← header-new (c .args .l) (c .args .m) (c .args .c) (c .pre .1)) (header-set (c .args .w .now) _ refl (c .pre .0))
 
 pub write-header-spec : {M : Type 1} → statement M
 write-header-spec =

@@ -1,56 +1,68 @@
--- `setup::write_record` meets its contract: a word a turn.
+-- `setup::write_record` meets its contract. The loop's invariant: the links of the levels passed are written, whatever the front is.
 use Prim.Native.Nat.{_-_, _≤_}
-use mathlib.Core.Path.{_≡_, sym, _∙_}
-use native.Mathlib.Omega.{arith}
 use borrow.Author.Needs.{needs}
-use Rattle.model.specs.Arena.{width}
-use Rattle.setup.specs.Bare.{bareWords}
-use Rattle.setup.proofs.Filling.{Storing, store-none, store-more, store-all}
-use Rattle.setup.proofs.New.{bare-at}
+use mathlib.Core.Path.{_∙_}
+use native.Mathlib.Omega.{arith}
+use Rattle.model.specs.Arena.{toColumn}
+use Rattle.setup.proofs.Writing.{front-written, no-links-written, still-lies, link-lies, link-written, all-written}
+use Rattle.setup.specs.NewRecords.{bareRecord, Written}
+use Rattle.setup.specs.declared.Front.{Front}
 use Rattle.setup.proofs.write_record.Statement.{statement}
 use Rattle.setup.proofs.write_record.Tie as tie
 
 abbrev Inv-loop : tie.InvT-loop
-Inv-loop w₀ m s f words c₀ w c = Storing m w₀ (s .0) (bareWords m (f .a) (f .b) (f .e) (f .d)) c w × (c ≤ width m) × (words ≡ width m)
+Inv-loop w₀ m s l₀ w l = ((f : Front) → Written m w₀ (s .0) (bareRecord m f) (toColumn 0) (toColumn l) w) × (l ≤ m)
 
 abbrev μ-loop : tie.MeasureT-loop
-μ-loop w₀ m s f words c₀ w c = words - c
+μ-loop w₀ m s l₀ w l = m - l
 
-width-requires : tie.Need-width-requires Inv-loop μ-loop
-width-requires c κs = search needs
+abbrev Start : Type 0
+Start = tie.Start Inv-loop μ-loop
+
+abbrev Fronted : Type 0
+Fronted = tie.After-write-front Inv-loop μ-loop
+
+abbrev Loop : Type 0
+Loop = tie.At-loop Inv-loop μ-loop
+
+abbrev Turn : Type 0
+Turn = tie.In-loop Inv-loop μ-loop
+
+write-front-requires : tie.Need-write-front-requires Inv-loop μ-loop
+write-front-requires c κs = search needs
 
 loop-holds : tie.Need-loop-holds Inv-loop μ-loop
-loop-holds c = (store-none, omega arith, c .width .ensures)
+loop-holds c = (λ f. no-links-written, omega arith)
 
-bare-word-requires : tie.Need-bare-word-requires Inv-loop μ-loop
-bare-word-requires c κs = search needs
+put-link-requires : tie.Need-put-link-requires Inv-loop μ-loop
+put-link-requires c κs =
+    let (start, fronted, loop, turn) : Start × Fronted × Loop × Turn = search in
+    let front = front-written (start .args .f) (start .pre) (fronted .write-front .ensures) in
+    link-lies (still-lies (start .pre) front) (loop .loop .inv .0 (start .args .f)) (turn .loop-test .taken)
 
-put-requires : tie.Need-put-requires Inv-loop μ-loop
-put-requires c κs = search needs
-
-add-c : tie.Need-add-c Inv-loop μ-loop
-add-c c = search needs
+add-l : tie.Need-add-l Inv-loop μ-loop
+add-l c = search needs
 
 loop-less : tie.Need-loop-less Inv-loop μ-loop
 loop-less c = search needs
 
 loop-again : tie.Need-loop-again Inv-loop μ-loop
 loop-again c =
-    let (start, at-loop, after-bare-word, after-put) : tie.Start Inv-loop μ-loop × tie.At-loop Inv-loop μ-loop × tie.After-bare-word Inv-loop μ-loop × tie.After-put Inv-loop μ-loop = search in
-    let a = start .args in
-    let l = at-loop .loop in (
-      store-more (start .pre) (search needs) (l .inv .0)
-          (after-bare-word .bare-word .ensures ∙ sym (bare-at (a .m) (l .c) (a .f .a) (a .f .b) (a .f .e) (a .f .d) (search needs)))
-          (after-put .put .ensures),
-      search needs,
-      l .inv .2,
-    )
+    let (start, fronted, loop, turn, put) : Start × Fronted × Loop × Turn × tie.After-put-link Inv-loop μ-loop = search in
+    let front = front-written (start .args .f) (start .pre) (fronted .write-front .ensures) in
+    (λ f. link-written (still-lies (start .pre) front) (turn .loop-test .taken) (loop .loop .inv .0 f) (put .put-link .ensures), omega arith)
 
 same-length : tie.Need-same-length Inv-loop μ-loop
-same-length c = search needs
+same-length c =
+    let (start, fronted, loop) : Start × Fronted × Loop = search in
+    let front = front-written (start .args .f) (start .pre) (fronted .write-front .ensures) in
+    loop .loop .inv .0 (start .args .f) .size ∙ front .size
 
 returns : tie.Need-returns Inv-loop μ-loop
-returns c = store-all (search needs) (c .before .loop .inv .0)
+returns c =
+    let (start, fronted, loop) : Start × Fronted × Loop = search in
+    let front = front-written (start .args .f) (start .pre) (fronted .write-front .ensures) in
+    all-written (loop .loop .inv .1) (c .loop-test .left) front (loop .loop .inv .0 (start .args .f))
 
 pub write-record-spec : {M : Type 1} → statement M
 write-record-spec =
@@ -58,11 +70,10 @@ write-record-spec =
     (tie.spec
     Inv-loop
     μ-loop
-    width-requires
+    write-front-requires
     loop-holds
-    bare-word-requires
-    put-requires
-    add-c
+    put-link-requires
+    add-l
     loop-less
     loop-again
     same-length

@@ -1,13 +1,8 @@
--- `arena_check::header::dims_of` meets its contract.
-use Prim.Native.Nat.{ℕ}
-use mathlib.Core.Path.{ap}
-use lib.ListN.{getD}
+-- `arena_check::header::dims_of` meets its contract: the levels went through `arena::wide`.
 use borrow.Author.Needs.{needs}
-use Rattle.arena_check.specs.declared.Dims.{Dims}
+use mathlib.Core.Path.{refl}
 use Rattle.arena_check.proofs.header.dims_of.Statement.{statement}
 use Rattle.arena_check.proofs.header.dims_of.Tie as tie
-
--- `arena_check::header::dims_of` meets its contract.
 
 shared-slice-read-wide : tie.Need-shared-slice-read-wide
 shared-slice-read-wide c = search needs
@@ -23,9 +18,8 @@ shared-slice-read-t7 c = search needs
 
 returns : tie.Need-returns
 returns c =
-    let (start, after-wide) : tie.Start × tie.After-wide = search in
-    let w = start .args .w .now in
-    ap {B = Dims} (λ (m : ℕ). record { lists = getD w 2 0; levels = m; room = getD w 4 0 }) (after-wide .wide .ensures)
+    let levels : tie.After-wide = search in
+    rw (levels .wide .ensures) refl
 
 pub dims-of-spec : {M : Type 1} → statement M
 dims-of-spec =

@@ -38,14 +38,14 @@ fits-requires c κs = search needs
 
 returns-5 : tie.Need-returns-5
 returns-5 c =
-    let (else1, else2, else3, else4) : tie.Else1 × tie.Else2 × tie.Else3 × tie.Else4 = search in
+    let (eight, is-mark, is-version, zero) : tie.Else1 × tie.Else2 × tie.Else3 × tie.Else4 = search in
     record {
-      sound = λ x. let q = c .fits2 .ensures .sound x in record {
-        eight = else1 .if1 .left;
-        is-mark = else2 .if2 .left;
-        is-version = else3 .if3 .left;
-        last-word = else4 .if4 .left;
-        shape = record { size = q .size; ranges = q .ranges };
+      sound = λ y. let room = c .fits2 .ensures .sound y in record {
+        eight = eight .if1 .left;
+        is-mark = is-mark .if2 .left;
+        is-version = is-version .if3 .left;
+        last-word = zero .if4 .left;
+        shape = record { size = room .size; ranges = room .ranges };
       };
       complete = λ h. c .fits2 .ensures .complete (record { ranges = h .shape .ranges; size = h .shape .size });
     }

@@ -1,21 +1,30 @@
 -- `arena_check::heads::lasts_apart` meets its contract. The loop's invariant: the lists passed end apart.
-use Prim.Native.Nat.{ℕ, _-_}
-use native.Mathlib.Omega.{arith}
+use Prim.Native.Nat.{_-_}
 use borrow.Author.Needs.{needs}
-use Rattle.arena_check.specs.Below.{Below}
-use Rattle.arena_check.specs.Sizes.{Differ}
-use Rattle.arena_check.proofs.Levels.{Upto, upto-none, below-next, below-no, below-all}
+use native.Mathlib.Omega.{arith}
+use Rattle.arena_check.specs.Headed.{LastsDiffer}
+use Rattle.link_check.proofs.Loops.{Upto, upto-none, upto-next, each-no, each-yes}
+use Rattle.link_check.specs.EachFrom.{EachFrom}
 use Rattle.arena_check.proofs.heads.lasts_apart.Statement.{statement}
 use Rattle.arena_check.proofs.heads.lasts_apart.Tie as tie
 
 abbrev Inv-loop : tie.InvT-loop
-Inv-loop w d a₀ a = Upto 0 (d .lists) a (λ k. Below k (Differ (d .levels) w k))
+Inv-loop w d a₀ a = Upto 0 (d .lists) a (λ k. EachFrom 0 k (LastsDiffer w d k))
 
 abbrev μ-loop : tie.MeasureT-loop
 μ-loop w d a₀ a = d .lists - a
 
+abbrev Loop : Type 0
+Loop = tie.At-loop Inv-loop μ-loop
+
+abbrev Turn : Type 0
+Turn = tie.Then1 Inv-loop μ-loop
+
+abbrev Tested : Type 0
+Tested = tie.After-last-apart Inv-loop μ-loop
+
 loop-holds : tie.Need-loop-holds Inv-loop μ-loop
-loop-holds c = upto-none _ _ _ (omega arith)
+loop-holds c = upto-none (omega arith)
 
 last-apart-requires : tie.Need-last-apart-requires Inv-loop μ-loop
 last-apart-requires c κs = search needs
@@ -28,18 +37,18 @@ loop-less c = search needs
 
 loop-again : tie.Need-loop-again Inv-loop μ-loop
 loop-again c =
-    let (at-loop, then1, after-last-apart) : tie.At-loop Inv-loop μ-loop × tie.Then1 Inv-loop μ-loop × tie.After-last-apart Inv-loop μ-loop = search in
-    below-next _ _ _ _ (at-loop .loop .inv) (then1 .if1 .taken) (after-last-apart .last-apart .ensures) (c .if2 .taken)
+    let (loop, turn, tested) : Loop × Turn × Tested = search in
+    upto-next (loop .loop .inv) (turn .if1 .taken) (tested .last-apart .ensures) (c .if2 .taken)
 
 returns : tie.Need-returns Inv-loop μ-loop
 returns c =
-    let (start, then1, after-last-apart) : tie.Start Inv-loop μ-loop × tie.Then1 Inv-loop μ-loop × tie.After-last-apart Inv-loop μ-loop = search in
-    below-no _ (λ (k : ℕ). Below k (Differ (start .args .d .levels) (start .args .w .now) k)) _ _ (then1 .if1 .taken) (after-last-apart .last-apart .ensures) (c .if2 .left)
+    let (loop, turn, tested) : Loop × Turn × Tested = search in
+    each-no (loop .loop .inv) (turn .if1 .taken) (tested .last-apart .ensures) (c .if2 .left)
 
 returns-2 : tie.Need-returns-2 Inv-loop μ-loop
 returns-2 c =
-    let at-loop : tie.At-loop Inv-loop μ-loop = search in
-    below-all _ _ _ (at-loop .loop .inv) (c .if1 .left)
+    let loop : Loop = search in
+    each-yes (loop .loop .inv) (c .if1 .left)
 
 pub lasts-apart-spec : {M : Type 1} → statement M
 lasts-apart-spec =

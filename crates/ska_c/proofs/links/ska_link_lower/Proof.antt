@@ -4,14 +4,16 @@ use borrow.Author.Needs.{needs}
 use Rattle.ska_c.proofs.links.ska_link_lower.Statement.{statement}
 use Rattle.ska_c.proofs.links.ska_link_lower.Tie as tie
 
-link-lower-requires : tie.Need-link-lower-requires
-link-lower-requires c κs = search needs
+lower-requires : tie.Need-lower-requires
+lower-requires c κs = search needs
 
-link-numbers-requires : tie.Need-link-numbers-requires
-link-numbers-requires c κs = search needs
+of-distance-requires : tie.Need-of-distance-requires
+of-distance-requires c κs = search needs
 
 returns : tie.Need-returns
-returns c = c .link-numbers .ensures ∙ c .before .link-lower .ensures
+returns c =
+    let (done, n) : tie.After-lower × tie.After-of-distance = search in
+    n .of-distance .ensures ∙ done .lower .ensures
 
 pub ska-link-lower-spec : {M : Type 1} → statement M
-ska-link-lower-spec = tie.close (tie.spec link-lower-requires link-numbers-requires returns)
+ska-link-lower-spec = tie.close (tie.spec lower-requires of-distance-requires returns)

@@ -17,18 +17,20 @@ reach-requires c κs = search needs
 
 returns : tie.Need-returns
 returns c =
-    let (start, b, then1, after-before2) : tie.Start × tie.After-length × tie.Then1 × tie.After-before2 = search in
-    let g = start .args in
-    visit-past (g .w .now) (g .m) (g .self) (omega (arith, b .length .ensures, then1 .if1 .taken)) (c .reach .result) (after-before2 .before2 .result) (omega (arith, b .length .ensures, after-before2 .before2 .ensures)) (c .reach .ensures)
+    let (start, n, past, rank) : tie.Start × tie.After-length × tie.Then1 × tie.After-before2 = search in
+    let a = start .args in
+    let r = rank .before2 in
+    visit-past (a .w .now) (a .m) (a .self) (omega (arith, n .length .ensures, past .if1 .taken)) (c .reach .result) (r .result)
+    (omega (arith, n .length .ensures, r .ensures)) (c .reach .ensures)
 
 reach-requires-2 : tie.Need-reach-requires-2
 reach-requires-2 c κs = search needs
 
 returns-2 : tie.Need-returns-2
 returns-2 c =
-    let (start, b, else1) : tie.Start × tie.After-length × tie.Else1 = search in
-    let g = start .args in
-    visit-there (g .w .now) (g .m) (g .self) (omega (arith, b .length .ensures, else1 .if1 .left)) (c .reach2 .result) (c .reach2 .ensures)
+    let (start, n, there) : tie.Start × tie.After-length × tie.Else1 = search in
+    let a = start .args in
+    visit-there (a .w .now) (a .m) (a .self) (omega (arith, n .length .ensures, there .if1 .left)) (c .reach2 .result) (c .reach2 .ensures)
 
 pub traversed-spec : {M : Type 1} → statement M
 traversed-spec =

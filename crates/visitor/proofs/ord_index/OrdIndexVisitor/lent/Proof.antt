@@ -3,7 +3,7 @@ use contract.Running.{givenOf, tables, tablesOf}
 use denote.Triple.Spec.{tripleOf}
 use denote.Triple.Table.{entered, cited}
 use Rattle.visitor.proofs.Lending.{lend-meets}
-use Rattle.visitor.proofs.Walks.{key-walk}
+use Rattle.visitor.proofs.BothWalks.{key-walk}
 use Rattle.visitor.proofs.ord_index.OrdIndexVisitor.traverse as thin
 use Rattle.visitor.proofs.ord_index.OrdIndexVisitor.traverse.Symbol as thin-def
 use Rattle.visitor.proofs.ord_index.OrdIndexVisitor.traverse.Symbol.{name as #traverse}
@@ -19,4 +19,5 @@ lent-spec 𝓤 H 𝓜 𝓖 𝓡 =
     entered 𝓤 H (tripleOf 𝓤 H (𝓖 .A) lender.signature (lender.spec 𝓤 H (𝓖 .A) (𝓜 .mem) (𝓡 .run)))
     (tables 𝓤 H 𝓜 𝓡 code.env .C) (tables 𝓤 H 𝓜 𝓡 code.env .Λ) #lent code.function (code.unfolded 𝓤 H 𝓜 𝓡)
     (lend-meets key-walk #traverse 𝓤 H (𝓖 .A) (givenOf 𝓤 H 𝓜 𝓖) (tablesOf 𝓤 H 𝓜 (tables 𝓤 H 𝓜 𝓡 code.env))
-    (cited 𝓤 H (tripleOf 𝓤 H (𝓖 .A) thin.signature (thin.spec 𝓤 H (𝓖 .A) (𝓜 .mem) (𝓡 .run))) 𝓜 𝓡 code.env #traverse thin-def.routine code.calls-visitor·ord-index·OrdIndexVisitor·traverse (thin-thm.met 𝓤 H 𝓜 𝓖 𝓡)))
+    (cited 𝓤 H (tripleOf 𝓤 H (𝓖 .A) thin.signature (thin.spec 𝓤 H (𝓖 .A) (𝓜 .mem) (𝓡 .run))) 𝓜 𝓡 code.env #traverse thin-def.routine
+    code.calls-visitor·ord-index·OrdIndexVisitor·traverse (thin-thm.met 𝓤 H 𝓜 𝓖 𝓡)))

@@ -1,0 +1,3 @@
+pub mod Told
+pub mod Lists
+pub mod Kept

@@ -1,0 +1,3 @@
+pub mod ChainStores
+pub mod ChainReads
+pub mod ChainDone

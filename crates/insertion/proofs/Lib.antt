@@ -1,0 +1,2 @@
+pub mod InsertBefore
+pub mod KeyPlace

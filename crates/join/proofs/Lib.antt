@@ -1,0 +1,2 @@
+pub mod JoinLinks
+pub mod JoinColumns

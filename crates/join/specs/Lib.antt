@@ -1,0 +1,2 @@
+-- What a join asks of words: for the crates above, not for a reader of the promises.
+pub mod Joins

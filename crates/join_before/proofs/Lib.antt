@@ -1,0 +1,4 @@
+pub mod HeadMoves
+pub mod JoinBefore
+pub mod BeforeLinks
+pub mod BeforeColumns

@@ -1,0 +1,3 @@
+-- Where the walk by key stands and what it answers.
+pub mod SearchAnswer
+pub mod Midway

@@ -1,0 +1,67 @@
+-- Demand 3 of every search that keeps its promise, on any words that pass and with any arguments. Rests on Limits, StoredWalks and Runs.
+use Prim.Native.Nat.{ℕ, suc, _+_, _*_, _^_, _≤_, _<_}
+use mathlib.Core.Path.{_≡_, refl, sym, ap, _∙_, subst}
+use mathlib.Core.List.{List, _∷_}
+use lib.ListN.{length}
+use native.Mathlib.Omega.{arith}
+use Rattle.model.specs.Arena.{State, listOf}
+use Rattle.model.specs.Calls.{Call, Answer, search, level, refusal, declined, answerTo, resultOf, Promise}
+use Rattle.model.specs.Gaps.{gap, comparisons, AllOnlyTruncate}
+use Rattle.model.specs.Nodes.{smallerKeys}
+use Rattle.model.specs.Passes.{Passes, decode, nodes}
+use Rattle.model.specs.Sequences.{resultsOf, Run}
+use Rattle.model.specs.StoredWalks.{keyWalkStored}
+use Rattle.model.specs.Walks.{End, ended}
+use Rattle.model.proofs.Allowed.{allowed}
+use Rattle.model.proofs.Keeps.{sorted-list, low-list}
+use Rattle.model.proofs.Limits.{within-rank as by-rank, within-gap as by-gap, search-levelled}
+use Rattle.model.proofs.Runs.{run-leaves, run-passes}
+use Rattle.model.proofs.StoredWalks.{key-walk-stored}
+use Rattle.model.proofs.Tests.{same, other, same?, hit, miss, test}
+
+-- a search answers no more than the walk's comparisons: its own count, with refusal 10 an allowance below it, else 0
+answers-no-more : (S : State) (a k allowance : ℕ) → answerTo S (search a k allowance) .tally ≤ comparisons (S .levels) k (listOf S a)
+answers-no-more S a k allowance = elim (test (suc a) (length (S .lists))) [
+  | miss e _ ↦ rw e (omega arith)
+  | hit e _ ↦ elim (test (comparisons (S .levels) k (listOf S a)) allowance) [ hit f _ ↦ rw (e, f) (omega arith) | miss f l ↦ rw (e, f) (omega arith) ]
+]
+
+pub number-declined : (n : ℕ) (c : Call) → declined n c .number ≡ n
+number-declined n c = elim (same? n 10) [ same e q ↦ rw e (sym q) | other e q ↦ rw e refl ]
+
+module _ {w u : List ℕ} {a k allowance : ℕ} {r : Answer} (p : Promise (search a k allowance) w u r) (q : Passes w) where
+  -- whatever it answers, the tally is not above the walk's
+  pub no-more : r .tally ≤ comparisons (decode w .levels) k (nodes w a)
+  no-more = omega (arith, ap (λ (x : Answer). x .tally) (p .whole q .0), answers-no-more (decode w) a k allowance)
+
+  -- "a tally invented to fit the limit (3: it equals the walk's over the stored links)"
+  pub is-walks : r .number ≡ 0 → r .tally ≡ ended (keyWalkStored (decode w .levels) w a k) .tally
+  is-walks ok =
+      let S = decode w in
+      let e = p .whole q .0 in
+      elim (same? (refusal S (search a k allowance)) 0) [
+        | same f g ↦
+            ap (λ (x : Answer). x .tally) (rw f at e)
+            ∙ ap (λ (x : End). ended x .tally) (sym (key-walk-stored w q a (allowed S (search a k allowance) g .0) k))
+        | other f g ↦ absurd (g (sym (ap (λ (x : Answer). x .number) (rw f at e) ∙ number-declined (refusal S (search a k allowance)) (search a k allowance)) ∙ ok))
+      ]
+
+  -- "a search for a key with r smaller keys makes at most r + M + 1 comparisons"
+  pub within-rank : r .tally ≤ smallerKeys k (nodes w a) + decode w .levels + 1
+  within-rank = omega (arith, no-more, by-rank (decode w .levels) k (nodes w a) (sorted-list (decode w) (q .sound) a))
+
+  -- with g the largest gap of the list, at most (g + 1)(M + 1)
+  pub within-gap : r .tally ≤ (gap (decode w .levels) (nodes w a) + 1) * (decode w .levels + 1)
+  within-gap = omega (arith, no-more, by-gap (decode w .levels) k (nodes w a) (sorted-list (decode w) (q .sound) a) (low-list (decode w) (q .sound) a))
+
+-- "Directly after a levelling of that list, or after truncations of it following one with no other change to it", with fewer than 2^(M+1) keys, at
+-- most 2M + 2: any calls may come between that leave list a as it was or truncate it.
+pub within-levelled : {w u v : List ℕ} {a k allowance : ℕ} {cs : List Call} {rs : List Answer} {r : Answer} → Passes w → Run w (level a ∷ cs) rs u
+    → AllOnlyTruncate a (resultOf (decode w) (level a)) cs → Promise (search a k allowance) u v r → length (nodes u a) < 2 ^ suc (decode u .levels)
+    → r .tally ≤ 2 * decode u .levels + 2
+within-levelled {w} {u} {a} {k} {allowance} {cs} q run only p few =
+    let T = resultsOf (decode w) (level a ∷ cs) in
+    let e = run-leaves run q in
+    let passes : Passes u = run-passes run q in
+    let limit = search-levelled (decode w) (q .sound) a cs k only in
+    omega (arith, no-more p passes, subst (λ (S : State). length (listOf S a) < 2 ^ suc (S .levels) → comparisons (S .levels) k (listOf S a) ≤ 2 * S .levels + 2) (sym e) limit few)

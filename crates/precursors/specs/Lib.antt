@@ -1,0 +1,2 @@
+-- What the walk by key with precursors leaves.
+pub mod Trails

@@ -1,0 +1,2 @@
+-- What the walk by rank answers.
+pub mod Ranks

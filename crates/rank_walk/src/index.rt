@@ -1,0 +1,68 @@
+// Reading by rank: the walk without precursors.
+ghost use mathlib.Core.Path.{_≡_};
+ghost use Prim.Native.Nat.{_≤_, _<_};
+ghost use lib.ListN.{length};
+ghost use Rattle.model.specs.Nodes.{slotAt, keyAt};
+ghost use Rattle.model.specs.Lists.{middleOf};
+ghost use Rattle.model.specs.Passes.{nodes};
+ghost use Rattle.arena.specs.Owners.{Listed};
+use crate::Spot;
+use crate::index_mut::can_follow;
+use crate::index_mut::seek_next;
+use arena::Index;
+use arena::Key;
+use arena::Rank;
+use arena::Slot;
+
+// The number of nodes of a list.
+pub fn length(w: &[u32], m: usize, list: Slot) -> u32
+    requires { ⌜ Listed (now w) m (list .0) ⌝ }
+    ensures { λ r. ⌜ r ≡ length (nodes (now (w .entry)) (list .0)) ⌝ }
+{
+    arena::cell(w, m, list, arena::COUNT)
+}
+
+// The slot at a rank.
+pub fn reach(w: &[u32], m: usize, list: Slot, target: Rank) -> Slot
+    requires { ⌜ Listed (now w) m (list .0) × (target .0 ≤ length (nodes (now w) (list .0))) ⌝ }
+    ensures { λ r. ⌜ r .0 ≡ slotAt (list .0) (nodes (now (w .entry)) (list .0)) (target .0) ⌝ }
+{
+    let mut v = Spot {
+        slot: list,
+        rank: Rank::HEAD,
+    };
+    let mut base = arena::base_of(m, list);
+    let mut stage = m;
+    while 0 < stage {
+        let far = arena::distance_in(w, base, stage);
+        if !can_follow(far, target.0 - v.rank.0) {
+            stage = stage - 1;
+            continue;
+        }
+        let to = arena::target_in(w, base, stage);
+        v = Spot {
+            slot: to,
+            rank: v.rank.plus(far),
+        };
+        base = arena::base_of(m, to);
+    }
+    seek_next(w, m, list, v, target)
+}
+
+// The key at an index.
+pub fn read(w: &[u32], m: usize, list: Slot, i: Index) -> Key
+    requires { ⌜ Listed (now w) m (list .0) × (i .0 < length (nodes (now w) (list .0))) ⌝ }
+    ensures { λ r. ⌜ r ≡ keyAt (nodes (now (w .entry)) (list .0)) (i .0) ⌝ }
+{
+    let s = reach(w, m, list, Rank::from_index(i));
+    arena::key_at(w, m, s)
+}
+
+// The key at index floor((length - 1) / 2).
+pub fn middle(w: &[u32], m: usize, list: Slot) -> Key
+    requires { ⌜ Listed (now w) m (list .0) × (0 < length (nodes (now w) (list .0))) ⌝ }
+    ensures { λ r. ⌜ r ≡ middleOf (nodes (now (w .entry)) (list .0)) ⌝ }
+{
+    let n = length(w, m, list);
+    read(w, m, list, Index((n - 1) / 2))
+}

@@ -1,0 +1,2 @@
+pub mod RemoveAfter
+pub mod RemoveByKey

@@ -1,0 +1,2 @@
+-- What a removal by key answers and leaves.
+pub mod RemovalAnswer

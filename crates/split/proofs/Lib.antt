@@ -1,0 +1,2 @@
+pub mod SplitLinks
+pub mod SplitColumns

@@ -1,4 +1,0 @@
-pub mod Heads
-pub mod Leaving
-pub mod Appending
-pub mod Merging

@@ -1,0 +1,4 @@
+pub mod Shortened
+pub mod UntilFreed
+pub mod Ending
+pub mod Freeing
