@@ -8,7 +8,7 @@ use lib.Seq.{getD-set-same, getD-set-other, take-set-le, ext-getD, drop-drop, le
 use native.Mathlib.Nat.{mul-le-mul-right, zero-add, add-zero, not-suc-le-zero}
 use native.Mathlib.Omega.{arith}
 use Rattle.arena.specs.Linked.{putRow}
-use Rattle.arena.specs.Mixed.{Mix}
+use Rattle.arena.specs.Between.{Between}
 use Rattle.model.specs.Arena.{width, State, recordOf, header, encode, slots-of}
 use Rattle.model.specs.Cells.{recordAt, cellAt, putAt}
 use Rattle.model.specs.Passes.{decode, Passes}
@@ -84,8 +84,8 @@ pub record Stored (M n : ℕ) (f : ℕ → List ℕ) (k e : ℕ) (w u : List ℕ
 
 module _ {M n : ℕ} {f g : ℕ → List ℕ} {k e : ℕ} {w u : List ℕ} (x : Stored M n f k e w u) where
   -- the columns so far are those from lo to k; now up to e
-  pub mix-up : {lo hi hi′ : ℕ} → lo ≤ k → k ≤ e → hi ≡ k → hi′ ≡ e → Mix M n f g lo hi w → Mix M n f g lo hi′ u
-  mix-up lk ke q q′ m = record {
+  pub between-up : {lo hi hi′ : ℕ} → lo ≤ k → k ≤ e → hi ≡ k → hi′ ≡ e → Between M n f g lo hi w → Between M n f g lo hi′ u
+  between-up lk ke q q′ m = record {
     size = x .size ∙ m .size;
     new = λ s c l j a b. elim (test (suc c) k) [
       | hit t r ↦ x .others s c j (λ y z. omega arith) ∙ m .new s c l j a (omega arith)
@@ -96,8 +96,8 @@ module _ {M n : ℕ} {f g : ℕ → List ℕ} {k e : ℕ} {w u : List ℕ} (x : 
   }
 
   -- the columns so far are those from e to hi; now from k on
-  pub mix-down : {lo hi : ℕ} → k ≤ e → e ≤ hi → lo ≡ e → Mix M n f g lo hi w → Mix M n f g k hi u
-  mix-down ke eh q m = record {
+  pub between-down : {lo hi : ℕ} → k ≤ e → e ≤ hi → lo ≡ e → Between M n f g lo hi w → Between M n f g k hi u
+  between-down ke eh q m = record {
     size = x .size ∙ m .size;
     new = λ s c l j a b. elim (test (suc c) e) [
       | hit t r ↦ x .column s c l (omega arith) (omega arith)
@@ -148,7 +148,7 @@ module _ (M n : ℕ) (f : ℕ → List ℕ) (k e : ℕ) (ew : e ≤ width M) whe
 -- ---- one column ----
 -- a column in which f and g are the same needs no store
 pub skip-down : (M n : ℕ) (f g : ℕ → List ℕ) (w : List ℕ) (k lo hi : ℕ) → k < width M → lo ≡ suc k → k < hi → ((s : ℕ) → s < n → getD (f s) k 0 ≡ getD (g s) k 0)
-    → Mix M n f g lo hi w → Mix M n f g k hi w
+    → Between M n f g lo hi w → Between M n f g k hi w
 skip-down M n f g w k lo hi kw e kh alike m =
     let x : Stored M n f k (suc k) w w = record {
       size = refl;
@@ -156,7 +156,7 @@ skip-down M n f g w k lo hi kw e kh alike m =
       others = λ s d l out. refl;
       column = λ s d l a b. let z : d ≡ k = omega arith in rw z (m .below s k l kw (omega arith) ∙ sym (alike s l));
     } in
-    mix-down x (omega arith) kh e m
+    between-down x (omega arith) kh e m
 
 only : {k : ℕ} (at : ℕ → ℕ) (v : ℕ) → at k ≡ v → (j : ℕ) → j < length (v ∷ []) → at (k + j) ≡ getD (v ∷ []) j 0
 only {k} at v e zero l = ap at (add-zero k) ∙ e
@@ -177,30 +177,26 @@ module _ (M n : ℕ) (f : ℕ → List ℕ) (w : List ℕ) (size : length w ≡ 
 -- the same between f and g, which differ in that column at x alone
 module _ (M n : ℕ) (f g : ℕ → List ℕ) (w : List ℕ) (k x v : ℕ) (kw : k < width M) (xn : x < n)
     (alike : (s : ℕ) → s < n → s ≢ x → getD (f s) k 0 ≡ getD (g s) k 0) (at-x : getD (f x) k 0 ≡ v) where
-  pub one-up : (lo hi hi′ : ℕ) → lo ≤ k → hi ≡ k → hi′ ≡ suc k → Mix M n f g lo hi w → Mix M n f g lo hi′ (putAt M w x k v)
-  one-up lo hi hi′ lk e e′ m =
-      mix-up (one-stored M n f w (m .size) k kw x v xn (λ s l p. m .above s k l kw (omega arith) ∙ sym (alike s l p)) at-x) lk (omega arith) e e′ m
-
-  pub one-down : (lo hi : ℕ) → k < hi → lo ≡ suc k → Mix M n f g lo hi w → Mix M n f g k hi (putAt M w x k v)
+  pub one-down : (lo hi : ℕ) → k < hi → lo ≡ suc k → Between M n f g lo hi w → Between M n f g k hi (putAt M w x k v)
   one-down lo hi kh e m =
-      mix-down (one-stored M n f w (m .size) k kw x v xn (λ s l p. m .below s k l kw (omega arith) ∙ sym (alike s l p)) at-x) (omega arith) kh e m
+      between-down (one-stored M n f w (m .size) k kw x v xn (λ s l p. m .below s k l kw (omega arith) ∙ sym (alike s l p)) at-x) (omega arith) kh e m
 
 -- ---- from a state, to a state ----
 pub cell-is : (w : List ℕ) → Passes w → (s c : ℕ) → s < slots-of (decode w) → c < width (decode w .levels) → cellAt (decode w .levels) w s c ≡ getD (recordOf (decode w) s) c 0
 unfolding cellAt
 cell-is w p s c l k = cell-record (decode w .levels) w s c k ∙ ap (λ (R : List ℕ). getD R c 0) (here w p (decode w .levels) s ∙ rec-encode (decode w) s l)
 
-pub mix-start : (w : List ℕ) → Passes w → (f : ℕ → List ℕ) (k : ℕ) → Mix (decode w .levels) (slots-of (decode w)) f (recordOf (decode w)) k k w
-mix-start w p f k = record {
+pub between-start : (w : List ℕ) → Passes w → (f : ℕ → List ℕ) (k : ℕ) → Between (decode w .levels) (slots-of (decode w)) f (recordOf (decode w)) k k w
+between-start w p f k = record {
   size = ap length (p .words) ∙ length-encode (decode w);
   new = λ s c l j a b. absurd (omega arith);
   below = λ s c l j a. cell-is w p s c l j;
   above = λ s c l j a. cell-is w p s c l j;
 }
 
-pub mix-end : (T : State) (g : ℕ → List ℕ) (w : List ℕ) → Mix (T .levels) (slots-of T) (recordOf T) g 0 (width (T .levels)) w → take 8 w ≡ header T → w ≡ encode T
+pub between-end : (T : State) (g : ℕ → List ℕ) (w : List ℕ) → Between (T .levels) (slots-of T) (recordOf T) g 0 (width (T .levels)) w → take 8 w ≡ header T → w ≡ encode T
 unfolding cellAt
-mix-end T g w m e =
+between-end T g w m e =
     let W = width (T .levels) in
     sym (take-append-drop 8 w)
     ∙ ap₂ (λ (x y : List ℕ). x ++ y) e

@@ -22,7 +22,7 @@ pub record TwoLists (w : List ℕ) (m a b : ℕ) : Type 0 where
   pub apart : a ≢ b
 
 -- The node at index i of list a is there, so that it can go.
-pub record Leaves (w : List ℕ) (m a i : ℕ) : Type 0 where
+pub record NodeThere (w : List ℕ) (m a i : ℕ) : Type 0 where
   pub listed : Listed w m a
   pub index : i < length (nodes w a)
 

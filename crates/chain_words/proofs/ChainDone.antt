@@ -15,7 +15,7 @@ use Rattle.model.proofs.Hang.{Hung, Stage, same-0, same-1, same-3}
 use Rattle.model.proofs.Owners.{next-column}
 use Rattle.model.proofs.Tests.{same, other, same?}
 use Rattle.arena.proofs.Cells.{one-stored}
-use Rattle.arena.proofs.Relink.{Half, col, stored-col, mix-header, relink-end}
+use Rattle.arena.proofs.Relink.{Half, col, stored-col, between-header, relink-end}
 use Rattle.chain_words.specs.Chain.{putChain, putFree}
 use Rattle.chain_words.specs.declared.Head.{Head}
 use Rattle.chain_words.specs.declared.Record.{Record}
@@ -25,8 +25,8 @@ one-col : {S T : State} {fr : List ℕ} {m : ℕ} {w : List ℕ} (k : ℕ) → k
     → ((s : ℕ) → s < slots-of S → s ≢ x → getD (recordOf T s) k 0 ≡ getD (recordOf S s) k 0) → getD (recordOf T x) k 0 ≡ v → Half S T fr m k (putAt m w x k v)
 one-col {S} {T} {fr} {m} {w} k l g x v xn alike at-x =
     stored-col
-    (one-stored m (slots-of S) (recordOf T) w (g .mixed .size) k (omega arith) x v xn
-    (λ s z p. g .mixed .below s k z (omega arith) (omega arith) ∙ sym (alike s z p)) at-x)
+    (one-stored m (slots-of S) (recordOf T) w (g .between .size) k (omega arith) x v xn
+    (λ s z p. g .between .below s k z (omega arith) (omega arith) ∙ sym (alike s z p)) at-x)
     l g
 
 module _ {S T : State} {a o : ℕ} {A X Y : List Node} (H : Hung S T a o A X Y) (on : o < slots-of S) {m : ℕ} (em : m ≡ S .levels) {e r : ℕ} (st : Stage H 0 e r) where
@@ -74,6 +74,6 @@ module _ {S T : State} {a o : ℕ} {A X Y : List Node} (H : Hung S T a o A X Y) 
 
   pub free-done : {w : List ℕ} → Half S T (header S) m 0 w → (f n : ℕ) → f ≡ firstFree (T .free) → n ≡ length (T .free) → putFree w f n ≡ encode T
   free-done {w} g f n ef en =
-      relink-end H m em (putFree w f n) (mix-header 6 n (omega arith) (mix-header 5 f (omega arith) (g .mixed)))
+      relink-end H m em (putFree w f n) (between-header 6 n (omega arith) (between-header 5 f (omega arith) (g .between)))
       (take-set-lt 8 (set w 5 f) 6 n (omega arith) ∙ ap (λ (t : List ℕ). set t 6 n) (take-set-lt 8 w 5 f (omega arith) ∙ ap (λ (t : List ℕ). set t 5 f) (g .front))
       ∙ (rw (H .lists, H .levels, H .room, ef, en) refl))

@@ -8,7 +8,7 @@ ghost use Rattle.model.specs.Nodes.{keyAt, smaller};
 ghost use Rattle.model.specs.Arena.{encode};
 ghost use Rattle.model.specs.Calls.{search, removeKey, answerTo, resultOf, doInsert, doRemove, doTruncate, doSplit, doAppend, doLevel};
 ghost use Rattle.model.specs.Passes.{decode, nodes};
-ghost use Rattle.arena.specs.Owners.{Listed, Leaves, TwoLists};
+ghost use Rattle.arena.specs.Owners.{Listed, NodeThere, TwoLists};
 ghost use Rattle.split.specs.Splits.{Splits};
 use arena::Index;
 use arena::Slot;
@@ -58,7 +58,7 @@ pub extern "C" fn core_remove_key(w: &mut [u32], m: usize, list: u32, key: u32) 
 
 #[no_mangle]
 pub extern "C" fn core_remove_at(w: &mut [u32], m: usize, list: u32, index: u32) -> u32
-    requires { ⌜ Leaves (now w) m list index ⌝ }
+    requires { ⌜ NodeThere (now w) m list index ⌝ }
     ensures { λ r. ⌜ now (w .exit) ≡ encode (doRemove (decode (now (w .entry))) list index) × (r ≡ keyAt (nodes (now (w .entry)) list) index) ⌝ }
 {
     removal::remove_at(w, m, Slot(list), Index(index))

@@ -1,6 +1,6 @@
 -- A node's record takes the free column's form: the loop of `free_node` over the links below the height, then the columns 0 to 2.
 -- Rests on arena's Cells and model's Columns.
-use Prim.Native.Nat.{ℕ, suc, _+_, _*_, _≤_, _<_}
+use Prim.Native.Nat.{ℕ, suc, _+_, _≤_, _<_}
 use mathlib.Core.Path.{_≡_, refl, sym, ap, _∙_}
 use mathlib.Core.Logic.{_≢_}
 use mathlib.Core.List.{List, [], _∷_}
@@ -10,7 +10,7 @@ use Rattle.model.specs.Arena.{width, toColumn, freeWords}
 use Rattle.model.specs.Cells.{baseOf, cellAt, putAt}
 use Rattle.model.specs.Links.{linkWords, absentLink}
 use Rattle.model.specs.Nodes.{N}
-use Rattle.model.proofs.Chained.{absent-at}
+use Rattle.model.proofs.Chained.{free-field}
 use Rattle.model.proofs.Columns.{every-column, link-field}
 use Rattle.model.proofs.Tests.{hit, miss, test}
 use Rattle.arena.specs.Linked.{putRow, putLink}
@@ -73,7 +73,7 @@ module _ {w₀ : List ℕ} {m s : ℕ} (p : HoldsNode w₀ m s) {l : ℕ} {w : L
       form = every-column (λ c. cellAt m (putRow m w s 0 words) s c ≡ getD (freeWords m (next ∷ [])) c 0) m
           (stored 0 (omega arith)) (stored 1 (omega arith)) (stored 2 (omega arith))
           (elsewhere s 3 (omega arith) (λ q a b. omega arith) ∙ g .kept 3 (omega arith) (λ x. omega arith) ∙ p .zero)
-          (λ i j k q. elsewhere s (toColumn i + j) (omega arith) (λ r a b. omega arith) ∙ link-gone i j k q ∙ sym (absent i j k q));
+          (λ i j k q. elsewhere s (toColumn i + j) (omega arith) (λ r a b. omega arith) ∙ link-gone i j k q ∙ sym (free-field m (next ∷ []) i j k q));
     })
       where
         words : List ℕ
@@ -84,8 +84,3 @@ module _ {w₀ : List ℕ} {m s : ℕ} (p : HoldsNode w₀ m s) {l : ℕ} {w : L
 
         elsewhere : (z c : ℕ) → c < width m → (s ≡ z → 0 ≤ c → c < 3 → ⊥) → cellAt m (putRow m w s 0 words) z c ≡ cellAt m w z c
         elsewhere z c i out = row-other m s w 0 words z c (omega arith) i out
-
-        absent : (i j : ℕ) → i < m → j < linkWords → getD (freeWords m (next ∷ [])) (toColumn i + j) 0 ≡ getD absentLink j 0
-        absent i j k q =
-            let f : toColumn i + j ≡ suc (suc (suc (suc (linkWords * i + j)))) = omega arith in
-            ap (λ (c : ℕ). getD (freeWords m (next ∷ [])) c 0) f ∙ absent-at m i j k q

@@ -12,6 +12,7 @@ use Rattle.model.specs.Nodes.{Node, node, slotAt}
 use Rattle.model.specs.Arena.{firstFreeWord, freeWord, countColumn, nextColumn, lastColumn, State, firstFree, lastSlot, headWords, nodeWords, recordOf, slots-of, header, encode}
 use Rattle.model.specs.Cells.{Cell, cellAt}
 use Rattle.model.specs.Passes.{decode, nodes}
+use Rattle.model.proofs.Splitting.{last-joined}
 use Rattle.model.proofs.Hang.{Stage, head-S, head-T}
 use Rattle.model.proofs.Inserting.{f-T}
 use Rattle.model.proofs.Owners.{next-column}
@@ -24,7 +25,7 @@ use Rattle.level_links.proofs.InsertLinks.{H, like, o-S, small, few, o-in, leng
 use Rattle.chain_words.specs.Chain.{ChainLies, putChain, putFree}
 use Rattle.chain_words.specs.declared.Head.{Head}
 use Rattle.chain_words.specs.declared.Record.{Record}
-use Rattle.chain_words.proofs.ChainReads.{first-is, number-is, last-of-append, last-new, lies}
+use Rattle.chain_words.proofs.ChainReads.{first-is, number-is, last-new, lies}
 use Rattle.chain_words.proofs.ChainDone.{ChainIs, chain-done, free-done}
 
 module _ {w₀ : List ℕ} {m a i k h : ℕ} (p : CanInsert w₀ m a i k h) where
@@ -55,10 +56,10 @@ module _ {w₀ : List ℕ} {m a i k h : ℕ} (p : CanInsert w₀ m a i k h) wher
   a-in = omega (arith, p .listed .list)
 
   word : (s c : ℕ) → s < slots-of S → c < 4 → cellAt m w₀ s c ≡ getD (recordOf S s) c 0
-  word s c l j = insert-start p .mixed .below s c l (omega arith) j
+  word s c l j = insert-start p .between .below s c l (omega arith) j
 
   cell-of : (s c : ℕ) → s < slots-of S → c < 4 → Cell w₀ m s c
-  cell-of s c l j = there m (slots-of S) (small p) w₀ (insert-start p .mixed) s c l (omega arith)
+  cell-of s c l j = there m (slots-of S) (small p) w₀ (insert-start p .between) s c l (omega arith)
 
   slot-is : {z : ℕ} → z ≡ getD w₀ firstFreeWord 0 → z ≡ o
   slot-is e = e ∙ first-is w₀ (p .listed .passes)
@@ -92,7 +93,7 @@ module _ {w₀ : List ℕ} {m a i k h : ℕ} (p : CanInsert w₀ m a i k h) wher
   new-last {n} {l} en el = elim (same? i n) [
     | same e q ↦
         let b : B ≡ [] = drop-of-length-le xs {i = i} (omega (arith, q, count-is en)) in
-        rw e (new-a 3 ∙ last-of-append A nd B ∙ ap (λ (t : List Node). lastSlot (nd ∷ t)) b)
+        rw e (new-a 3 ∙ last-joined A (nd ∷ B) (omega arith) ∙ ap (λ (t : List Node). lastSlot (nd ∷ t)) b)
     | other e q ↦
         let d : 0 < length B = ahead i (length xs) (p .within) (λ z. q (z ∙ sym (count-is en))) (length-drop i xs) in
         rw e (new-a 3 ∙ last-new A nd B d ∙ sym (el ∙ head-word 3 (omega arith)))
@@ -128,9 +129,9 @@ module _ {w₀ : List ℕ} {m a i k h : ℕ} (p : CanInsert w₀ m a i k h) wher
     module _ {w₁ : List ℕ} (g : LinksDone w₀ T m w₁) where
       pub chain-lies : {z : ℕ} → z ≡ getD w₀ firstFreeWord 0 → ChainLies w₁ m a e z
       chain-lies q = rw (slot-is q) (record {
-        head = lies (small p) (g .mixed) a a-in;
-        end = lies (small p) (g .mixed) e (st .known);
-        node = lies (small p) (g .mixed) o (o-in p);
+        head = lies (small p) (g .between) a a-in;
+        end = lies (small p) (g .between) e (st .known);
+        node = lies (small p) (g .between) o (o-in p);
       })
 
       module _ {z free rest n next l last : ℕ} (q : Reads e z free rest n next l last) where
@@ -160,7 +161,7 @@ module _ {w₀ : List ℕ} {m a i k h : ℕ} (p : CanInsert w₀ m a i k h) wher
 
         pub insert-done : {w₂ w₃ : List ℕ} → w₂ ≡ putChain m w₁ (new-head n last) e z (new-node z next) → w₃ ≡ putFree w₂ rest (free - 1) → w₃ ≡ encode T
         insert-done e₂ e₃ =
-            let half : Half S T (header S) m 4 w₁ = record { front = g .front ∙ ap (take 8) (p .listed .passes .words); mixed = g .mixed } in
+            let half : Half S T (header S) m 4 w₁ = record { front = g .front ∙ ap (take 8) (p .listed .passes .words); between = g .between } in
             let chained = chain-done (H p) (o-in p) (p .listed .levels) st chain-is half in
             e₃ ∙ ap (λ (t : List ℕ). putFree t rest (free - 1)) e₂
             ∙ free-done (H p) (o-in p) (p .listed .levels) st chained rest (free - 1) rest-is

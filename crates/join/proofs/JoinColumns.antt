@@ -1,12 +1,12 @@
 -- A join behind its links: the columns 3, 2, 1 and 0, one after the other, and the whole. Rests on JoinLinks and level_links' AfterLinks.
 use Prim.Native.Nat.{ℕ, _+_, _<_}
 use mathlib.Core.Path.{_≡_, refl, sym, ap, _∙_}
-use mathlib.Core.List.{List, [], _∷_, _++_}
+use mathlib.Core.List.{List, [], _++_}
 use lib.ListN.{length, take, getD, length-append}
 use lib.Seq.{length-take-le}
 use native.Mathlib.Omega.{arith}
 use borrow.Author.Tests.{le-leb}
-use Rattle.model.specs.Arena.{width, State, lastSlot, headWords, recordOf, encode, slots-of}
+use Rattle.model.specs.Arena.{width, State, headWords, recordOf, encode, slots-of}
 use Rattle.model.specs.Calls.{doJoin}
 use Rattle.model.specs.Cells.{Cell, cellAt, putAt}
 use Rattle.model.specs.Links.{target}
@@ -19,16 +19,10 @@ use Rattle.arena.proofs.Cells.{skip-down}
 use Rattle.arena.proofs.Relink.{Half, col, relink-end}
 use Rattle.model.proofs.Hang.{Stage, same-0, same-1, same-3, head-T}
 use Rattle.model.proofs.Owners.{next-column}
-use Rattle.model.proofs.Splitting.{b-S, b-T}
+use Rattle.model.proofs.Splitting.{last-joined, b-S, b-T}
 use Rattle.model.proofs.Tests.{same, other, same?}
 use Rattle.model.proofs.Walk.{last-zero}
 use Rattle.join.proofs.JoinLinks.{like, H, few, b-in, stage-of}
-
-pub last-joined : (aa bb : List Node) → 0 < length bb → lastSlot (aa ++ bb) ≡ lastSlot bb
-last-joined [] bb l = refl
-last-joined (a ∷ aa) [] l = absurd (omega arith)
-last-joined (a ∷ []) (b ∷ bb) l = refl
-last-joined (a ∷ c ∷ aa) (b ∷ bb) l = last-joined (c ∷ aa) (b ∷ bb) l
 
 module _ {w₀ : List ℕ} {m a b : ℕ} (p : Joins w₀ m a b) where
   -- the slot at the end of list a
@@ -101,8 +95,8 @@ module _ {w₀ : List ℕ} {m a b : ℕ} (p : Joins w₀ m a b) {w : List ℕ} (
       col-1 : {u : List ℕ} → Done 2 u → Done 1 u
       col-1 {u} h = record {
         front = h .front;
-        mixed = skip-down m (slots-of S) (recordOf T) (recordOf S) u 1 2 (width m) (omega arith) refl (omega arith)
-            (λ s l. elim (same? s b) [ same x q ↦ rw (q, b-T (like p), b-S (like p)) refl | other x q ↦ same-1 (H p) s l q ]) (h .mixed);
+        between = skip-down m (slots-of S) (recordOf T) (recordOf S) u 1 2 (width m) (omega arith) refl (omega arith)
+            (λ s l. elim (same? s b) [ same x q ↦ rw (q, b-T (like p), b-S (like p)) refl | other x q ↦ same-1 (H p) s l q ]) (h .between);
       }
 
       col-0 : {v u : List ℕ} → Done 2 v → u ≡ putAt m (putAt m v a 0 (n + k)) b 0 0 → Done 0 u
@@ -114,4 +108,4 @@ module _ {w₀ : List ℕ} {m a b : ℕ} (p : Joins w₀ m a b) {w : List ℕ} (
           → x ≡ putAt m (putAt m w₂ a 0 (n + k)) b 0 0 → x ≡ encode T
       join-done e₃ e₂ e₀ =
           let done = col-0 (col-2 (col-3 e₃) e₂) e₀ in
-          relink-end (H p) m (p .onto .levels) _ (done .mixed) (done .front ∙ ap (take 8) (p .onto .passes .words) ∙ (rw (H p .lists) refl))
+          relink-end (H p) m (p .onto .levels) _ (done .between) (done .front ∙ ap (take 8) (p .onto .passes .words) ∙ (rw (H p .lists) refl))

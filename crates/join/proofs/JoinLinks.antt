@@ -43,7 +43,7 @@ module _ {w₀ : List ℕ} {m b : ℕ} (p : Listed w₀ m b) {T : State} {fr : L
   head-link =
       let lm : l < M = omega (arith, p .levels) in
       link-is m w b l (linkOf (suc l) (nodes w₀ b)) refl (λ j q.
-      g .mixed .above b (toColumn l + j) (omega (arith, p .list)) (omega arith) (omega arith)
+      g .between .above b (toColumn l + j) (omega (arith, p .list)) (omega arith) (omega arith)
       ∙ ap (λ (R : List ℕ). getD R (toColumn l + j) 0) (head-words (decode w₀) b (p .list))
       ∙ link-column M l j lm q .head (nodes w₀ b) ∙ (rw (le-leb (suc l) M lm) refl))
 
@@ -114,11 +114,11 @@ module _ {w₀ : List ℕ} {m a b : ℕ} (p : Joins w₀ m a b) where
   no-level = relink-start w₀ (p .onto .passes) T m (p .onto .levels)
 
   pub count-cell : Cell w₀ m a 0
-  count-cell = there m (slots-of S) small w₀ (no-level .mixed) a 0 (omega (arith, p .onto .list)) (omega arith)
+  count-cell = there m (slots-of S) small w₀ (no-level .between) a 0 (omega (arith, p .onto .list)) (omega arith)
 
   pub count-is : {n : ℕ} → n ≡ cellAt m w₀ a 0 → n ≡ length A
   count-is e =
-      e ∙ no-level .mixed .below a 0 (omega (arith, p .onto .list)) (omega arith) (omega arith)
+      e ∙ no-level .between .below a 0 (omega (arith, p .onto .list)) (omega arith) (omega arith)
       ∙ ap (λ (R : List ℕ). getD R 0 0) (head-S H) ∙ sym (ap length (H .is-S))
 
   module _ {n : ℕ} (en : n ≡ length A) {slots ranks : List ℕ} (q : Before w₀ m a (length A) slots ranks) {l : ℕ} (k : l < m) where
@@ -138,8 +138,8 @@ module _ {w₀ : List ℕ} {m a b : ℕ} (p : Joins w₀ m a b) where
     module _ {Z : State} {w : List ℕ} (g : Relinked S Z (take 8 w₀) m l w) where
       pub level-joins : LevelJoins w m l s b (n - r)
       level-joins = record {
-        end = link-there m (slots-of S) small w (g .mixed) s l (last-owner .known) k;
-        head = link-there m (slots-of S) small w (g .mixed) b l b-in k;
+        end = link-there m (slots-of S) small w (g .between) s l (last-owner .known) k;
+        head = link-there m (slots-of S) small w (g .between) b l b-in k;
         fits = head-fits (p .from) g k (omega (arith, few .0, en));
       }
 

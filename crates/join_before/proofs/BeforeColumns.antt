@@ -17,13 +17,14 @@ use Rattle.join_before.specs.Preceded.{doJoinBefore, nextBefore}
 use Rattle.level_links.proofs.AfterLinks.{half, half-cell, head-was}
 use Rattle.arena.proofs.Cells.{skip-down, one-stored}
 use Rattle.arena.proofs.Relink.{Half, stored-col, col, all-done}
+use Rattle.model.proofs.Splitting.{last-joined}
 use Rattle.model.proofs.Hang.{Stage}
 use Rattle.model.proofs.Owners.{field, Column, linkFrom, next-column}
 use Rattle.model.proofs.Records.{head-words}
 use Rattle.model.proofs.Tests.{same, other, same?}
 use Rattle.join_before.proofs.HeadMoves.{head-moved}
 use Rattle.join_before.proofs.JoinBefore.{lists-T, stays-0, stays-1, stays-3, head-a, head-b, head-moves}
-use Rattle.join.proofs.JoinColumns.{last-joined, end-stage}
+use Rattle.join.proofs.JoinColumns.{end-stage}
 use Rattle.join.proofs.JoinLinks.{H, few, b-in}
 
 -- a fact of one field
@@ -69,12 +70,12 @@ module _ {w₀ : List ℕ} {m a b : ℕ} (p : Joins w₀ m b a) {w : List ℕ} (
   -- a's last node stays its last
   col-3 : {u : List ℕ} → u ≡ putAt m w b 3 N → Done 3 u
   col-3 e =
-      let old : (i : ℕ) → i < slots-of S → cellAt m w i 3 ≡ getD (recordOf S i) 3 0 = λ i l. g .mixed .below i 3 l (omega arith) (omega arith) in
+      let old : (i : ℕ) → i < slots-of S → cellAt m w i 3 ≡ getD (recordOf S i) 3 0 = λ i l. g .between .below i 3 l (omega arith) (omega arith) in
       let last : getD (recordOf S a) 3 0 ≡ getD (recordOf T a) 3 0
       = ap (λ (R : List ℕ). getD R 3 0) (head-words S a (p .from .list)) ∙ sym (ap (λ (R : List ℕ). getD R 3 0) (head-a p) ∙ last-joined B A (p .some)) in
       let kept : (i : ℕ) → i < slots-of S → i ≢ b → cellAt m w i 3 ≡ getD (recordOf T i) 3 0
       = λ i l nb. elim (same? i a) [ same x q ↦ rw q (old a (b-in p) ∙ last) | other x q ↦ old i l ∙ sym (stays-3 p i l q nb) ] in
-      let stored = one-stored m (slots-of S) (recordOf T) w (g .mixed .size) 3 (omega arith) b N bn kept (ap (λ (R : List ℕ). getD R 3 0) (head-b p)) in
+      let stored = one-stored m (slots-of S) (recordOf T) w (g .between .size) 3 (omega arith) b N bn kept (ap (λ (R : List ℕ). getD R 3 0) (head-b p)) in
       stored-col (rw e stored) (omega arith) (half g)
 
   -- slot e is the end of list b
@@ -95,16 +96,16 @@ module _ {w₀ : List ℕ} {m a b : ℕ} (p : Joins w₀ m b a) {w : List ℕ} (
           (alone (λ j. getD (f ∷ []) j 0 ≡ getD (linkFrom (length B - length B) 0 A) j 0) f-is)
           (alone (λ j. getD (N ∷ []) j 0 ≡ getD absentLink j 0) refl) in
           let x = putAt m v e 2 f in
-          let stored = head-moved moves (st .known) (b-in p) bn m (omega arith) v (h .mixed .size)
-          (λ i j l q. h .mixed .below i (2 + j) l (omega arith) (omega arith)) (cellAt m x b 2 ∷ []) refl refl
+          let stored = head-moved moves (st .known) (b-in p) bn m (omega arith) v (h .between .size)
+          (λ i j l q. h .between .below i (2 + j) l (omega arith) (omega arith)) (cellAt m x b 2 ∷ []) refl refl
           (alone (λ j. getD (cellAt m x b 2 ∷ []) j 0 ≡ cellAt m x b (2 + j)) refl) in
           stored-col (rw eu stored) (omega arith) h
 
       col-1 : {u : List ℕ} → Done 2 u → Done 1 u
       col-1 {u} h = record {
         front = h .front;
-        mixed = skip-down m (slots-of S) (recordOf T) (recordOf S) u 1 2 (width m) (omega arith) refl (omega arith)
-            (λ i l. elim (same? i a) [ same x q ↦ rw (q, head-a p, head-words S a (p .from .list)) refl | other x q ↦ stays-1 p i l q ]) (h .mixed);
+        between = skip-down m (slots-of S) (recordOf T) (recordOf S) u 1 2 (width m) (omega arith) refl (omega arith)
+            (λ i l. elim (same? i a) [ same x q ↦ rw (q, head-a p, head-words S a (p .from .list)) refl | other x q ↦ stays-1 p i l q ]) (h .between);
       }
 
       col-0 : {v u : List ℕ} → Done 2 v → u ≡ putAt m (putAt m v a 0 (n + k)) b 0 0 → Done 0 u
@@ -115,5 +116,5 @@ module _ {w₀ : List ℕ} {m a b : ℕ} (p : Joins w₀ m b a) {w : List ℕ} (
       pub before-done : {w₃ w₂ x : List ℕ} → w₃ ≡ putAt m w b 3 N → w₂ ≡ nextBefore m w₃ e f a b → x ≡ putAt m (putAt m w₂ a 0 (n + k)) b 0 0 → x ≡ encode T
       before-done {w₃} {w₂} {x} e₃ e₂ e₀ =
           let done = col-0 (col-2 (col-3 e₃) e₂) e₀ in
-          all-done S T refl (omega (arith, lists-T p)) m (p .onto .levels) x (done .mixed)
+          all-done S T refl (omega (arith, lists-T p)) m (p .onto .levels) x (done .between)
           (done .front ∙ ap (take 8) (p .onto .passes .words) ∙ (rw (lists-T p) refl))

@@ -14,7 +14,7 @@ use Rattle.model.specs.Passes.{decode, nodes}
 use Rattle.join.specs.Joins.{Joins}
 use Rattle.join_before.specs.Preceded.{doJoinBefore, linkBefore, nextBefore}
 use Rattle.level_links.specs.OneLevel.{fartherLink}
-use Rattle.arena.proofs.Cells.{Stored, mix-up}
+use Rattle.arena.proofs.Cells.{Stored, between-up}
 use Rattle.arena.proofs.Relink.{Relinked, relink-start, link-there}
 use Rattle.model.proofs.Columns.{link-field}
 use Rattle.model.proofs.Owners.{link-column}
@@ -57,7 +57,7 @@ module _ {w₀ : List ℕ} {m a b : ℕ} (p : Joins w₀ m b a) where
     r = getD ranks l 0
 
     pub b-link-in : LinkIn w m b l
-    b-link-in = link-there m (slots-of S) (small p) w (g .mixed) b l bn k
+    b-link-in = link-there m (slots-of S) (small p) w (g .between) b l bn k
 
     abbrev hung : List ℕ
     hung = fartherLink (n - r) (linkAt m w a l)
@@ -72,8 +72,8 @@ module _ {w₀ : List ℕ} {m a b : ℕ} (p : Joins w₀ m b a) where
     unfolding putLink
     stored =
         let u = putLink m w s l hung in
-        head-moved moves (last-owner p en q k .known) (b-in p) bn m (omega arith) w (g .mixed .size)
-        (λ i j x f. g .mixed .above i (toColumn l + j) x (omega arith) (omega arith)) (linkAt m u b l) refl refl (λ j f. link-field m u b l j f)
+        head-moved moves (last-owner p en q k .known) (b-in p) bn m (omega arith) w (g .between .size)
+        (λ i j x f. g .between .above i (toColumn l + j) x (omega arith) (omega arith)) (linkAt m u b l) refl refl (λ j f. link-field m u b l j f)
 
     pub next-level : {x : List ℕ} → x ≡ linkBefore m w l s hung a b → Levels (l + 1) x
-    next-level ex = rw ex (record { front = stored .front ∙ g .front; mixed = mix-up stored (omega arith) (omega arith) refl (omega arith) (g .mixed) })
+    next-level ex = rw ex (record { front = stored .front ∙ g .front; between = between-up stored (omega arith) (omega arith) refl (omega arith) (g .between) })

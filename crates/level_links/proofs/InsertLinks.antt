@@ -90,12 +90,12 @@ module _ {w₀ : List ℕ} {m a i k h : ℕ} (p : CanInsert w₀ m a i k h) wher
   insert-start = relink-start w₀ (p .listed .passes) T m (p .listed .levels)
 
   pub insert-size : {l : ℕ} {w : List ℕ} → Relinked S T (take 8 w₀) m l w → length w ≡ length w₀
-  insert-size g = g .mixed .size ∙ sym (insert-start .mixed .size)
+  insert-size g = g .between .size ∙ sym (insert-start .between .size)
 
   pub insert-end : {l : ℕ} {w : List ℕ} → Relinked S T (take 8 w₀) m l w → l ≤ m → m ≤ l → LinksDone w₀ T m w
   insert-end {l} {w} g x y =
       let e : l ≡ m = omega arith in
-      subst (λ (n : ℕ). Relinked S T (take 8 w₀) m n w → LinksDone w₀ T m w) (sym e) (λ q. record { front = q .front; mixed = q .mixed }) g
+      subst (λ (n : ℕ). Relinked S T (take 8 w₀) m n w → LinksDone w₀ T m w) (sym e) (λ q. record { front = q .front; between = q .between }) g
 
   -- level l: its precursor s stands r nodes behind the head
   module _ {slots ranks : List ℕ} (q : Before w₀ m a i slots ranks) {l : ℕ} {w : List ℕ} (g : Relinked S T (take 8 w₀) m l w) (kl : l < m)

@@ -1,5 +1,5 @@
 -- How a link changes where a node stands behind n others of its level, as the link calls change its words. Rests on model's Links and Owners, and on link's Changed.
-use Prim.Native.Nat.{ℕ, zero, suc, _+_, _-_, _*_, _≤_, _<_}
+use Prim.Native.Nat.{ℕ, zero, suc, _+_, _-_, _≤_, _<_}
 use mathlib.Core.Path.{_≡_, refl, sym, ap, _∙_}
 use mathlib.Core.List.{List, [], _∷_}
 use lib.ListN.{getD}
@@ -8,7 +8,7 @@ use borrow.Author.Tests.{le-leb, lt-leb}
 use Rattle.model.specs.Arena.{toColumn, nodeWords, freeWords}
 use Rattle.model.specs.Links.{further, target, distance, linkWords, linkOf, absentLink}
 use Rattle.model.specs.Nodes.{Node}
-use Rattle.model.proofs.Chained.{absent-at}
+use Rattle.model.proofs.Chained.{free-field}
 use Rattle.model.proofs.Links.{past}
 use Rattle.model.proofs.Owners.{field, link-column, linkFrom}
 use Rattle.arena.proofs.Relink.{un-past}
@@ -47,12 +47,10 @@ module _ (n h : ℕ) (Z : List Node) where
     pub shorter-from : y .height < h → shorterLink (linkFrom n h (y ∷ Z)) ≡ linkFrom n h Z
     shorter-from l = ap shorterLink (sym (longer-from l)) ∙ ap (λ (d : ℕ). target h Z ∷ d ∷ []) (less-further (past n (distance h Z)))
 
--- ---- the links of a free slot, and of a node in a list ----
+-- a free slot's links are absent
 pub free-link : (M : ℕ) (fs : List ℕ) {R : List ℕ} → R ≡ freeWords M fs → (l : ℕ) → l < M → (j : ℕ) → j < linkWords
     → getD R (toColumn l + j) 0 ≡ getD absentLink j 0
-free-link M fs e l k j q =
-    let four : toColumn l + j ≡ suc (suc (suc (suc (linkWords * l + j)))) = omega arith in
-    rw (e, four) (absent-at M l j k q)
+free-link M fs e l k j q = rw e (free-field M fs l j k q)
 
 module _ (M : ℕ) (y : Node) (Z : List Node) {R : List ℕ} (e : R ≡ nodeWords M y Z) (l : ℕ) (k : l < M) where
   its-word : (j : ℕ) → j < linkWords → getD R (toColumn l + j) 0 ≡ field j (suc l) (y .height) Z

@@ -24,12 +24,12 @@ use Rattle.model.proofs.Splitting.{slot-take}
 use Rattle.model.proofs.Steps.{distance-le}
 use Rattle.model.proofs.Tests.{hit, miss, test}
 use Rattle.model.proofs.Walk.{last-le}
-use Rattle.arena.specs.Owners.{Before, Leaves}
+use Rattle.arena.specs.Owners.{Before, NodeThere}
 use Rattle.arena.proofs.Relink.{LinkOf, Relinked, relink-start, link-s, link-o, old-link, old-link-o, relinked, relinked-one}
 use Rattle.level_links.specs.OneLevel.{fartherLink, shorterLink, LevelFits, LevelRemoved, LinksDone}
 use Rattle.level_links.proofs.LinkChanges.{past-le, farther-of, shorter-from, free-link, link-under, link-over}
 
-module _ {w₀ : List ℕ} {m a i : ℕ} (p : Leaves w₀ m a i) where
+module _ {w₀ : List ℕ} {m a i : ℕ} (p : NodeThere w₀ m a i) where
   abbrev S : State
   S = decode w₀
 
@@ -89,12 +89,12 @@ module _ {w₀ : List ℕ} {m a i : ℕ} (p : Leaves w₀ m a i) where
   remove-start = relink-start w₀ (p .listed .passes) T m (p .listed .levels)
 
   pub remove-size : {l : ℕ} {w : List ℕ} → Relinked S T (take 8 w₀) m l w → length w ≡ length w₀
-  remove-size g = g .mixed .size ∙ sym (remove-start .mixed .size)
+  remove-size g = g .between .size ∙ sym (remove-start .between .size)
 
   pub remove-end : {l : ℕ} {w : List ℕ} → Relinked S T (take 8 w₀) m l w → l ≤ m → m ≤ l → LinksDone w₀ T m w
   remove-end {l} {w} g x y =
       let e : l ≡ m = omega arith in
-      subst (λ (n : ℕ). Relinked S T (take 8 w₀) m n w → LinksDone w₀ T m w) (sym e) (λ q. record { front = q .front; mixed = q .mixed }) g
+      subst (λ (n : ℕ). Relinked S T (take 8 w₀) m n w → LinksDone w₀ T m w) (sym e) (λ q. record { front = q .front; between = q .between }) g
 
   -- level l: its precursor s stands r nodes behind the head
   module _ {slots ranks : List ℕ} (q : Before w₀ m a i slots ranks) {l : ℕ} {w : List ℕ} (g : Relinked S T (take 8 w₀) m l w) (kl : l < m)

@@ -11,7 +11,7 @@ use Rattle.model.specs.Cells.{cellAt, linkAt}
 use Rattle.model.specs.Links.{further, absentLink}
 use Rattle.model.specs.Passes.{decode}
 use Rattle.arena.specs.Linked.{LinkIn, putLink}
-use Rattle.arena.specs.Mixed.{Mix}
+use Rattle.arena.specs.Between.{Between}
 
 -- The words of a link whose owner is n ranks further on, or further back; of one that spans a node that comes, or that goes.
 -- An absent link stays absent.
@@ -48,4 +48,4 @@ pub record LevelRemoved (m l h s o back : ℕ) (w u : List ℕ) : Type 0 where
 -- The links are as in the model T; the header and the columns before the links are as before.
 pub record LinksDone (before : List ℕ) (T : State) (m : ℕ) (after : List ℕ) : Type 0 where
   pub front : take headerWords after ≡ take headerWords before
-  pub mixed : Mix m (slots-of (decode before)) (recordOf T) (recordOf (decode before)) (toColumn 0) (width m) after
+  pub between : Between m (slots-of (decode before)) (recordOf T) (recordOf (decode before)) (toColumn 0) (width m) after

@@ -19,7 +19,7 @@ ghost use Rattle.model.specs.Arena.{firstFree};
 ghost use Rattle.model.specs.Calls.{doRemove};
 ghost use Rattle.model.specs.Passes.{decode};
 ghost use Rattle.arena.specs.Linked.{wordsOf};
-ghost use Rattle.arena.specs.Owners.{Leads, Leaves};
+ghost use Rattle.arena.specs.Owners.{Leads, NodeThere};
 ghost use Rattle.level_links.specs.AtIndex.{insertedAt, CanInsert, NodeIs};
 ghost use Rattle.level_links.specs.OneLevel.{nearerLink, fartherLink, longerLink, shorterLink};
 ghost use Rattle.level_links.specs.OneLevel.{LevelFits, LevelInserted, LevelRemoved, LinksDone};
@@ -128,7 +128,7 @@ pub fn insert_links(
 
 // Every level, for the node at index i, of height h and in slot o, that goes out.
 pub fn remove_links(w: &mut [u32], m: usize, list: Slot, i: Index, o: Slot, h: usize, path: Path)
-    requires { ⌜ Leaves (now w) m (list .0) (i .0) × Leads (now w) m (list .0) (i .0) path ⌝ }
+    requires { ⌜ NodeThere (now w) m (list .0) (i .0) × Leads (now w) m (list .0) (i .0) path ⌝ }
     requires { ⌜ NodeIs (now w) (list .0) (i .0) (o .0) h ⌝ }
     ensures { λ _. ⌜ LinksDone (now (w .entry)) (doRemove (decode (now (w .entry))) (list .0) (i .0)) m (now (w .exit)) ⌝ }
 {

@@ -13,7 +13,7 @@ use Rattle.model.specs.Cells.{Cell, cellAt}
 use Rattle.model.specs.Passes.{decode, nodes}
 use Rattle.model.proofs.Counting.{list-few}
 use Rattle.model.proofs.Levels.{twos-le}
-use Rattle.arena.specs.Owners.{Listed, Leads, Leaves}
+use Rattle.arena.specs.Owners.{Listed, Leads, NodeThere}
 use Rattle.arena.specs.declared.Path.{Path}
 use Rattle.arena.proofs.Places.{fits, length-word}
 use Rattle.levelling.specs.NodeByNode.{levelledAt, levelledFrom, Full, CanRelevel, Relevelled}
@@ -74,7 +74,7 @@ module _ {w₀ : List ℕ} {m a n i : ℕ} {w : List ℕ} {path : Path} (g : Lev
   pub all-levelled : n ≤ i → w ≡ encode (doLevel (decode w₀) a)
   all-levelled l = g .listed .passes .words ∙ ap encode (sym (none-left (decode w) a i (omega (arith, g .count))) ∙ g .rest)
 
-  next-there : i < n → Leaves w m a i
+  next-there : i < n → NodeThere w m a i
   next-there l = record { listed = g .listed; index = omega (arith, g .count) }
 
   pub can-relevel : i < n → (k : ℕ) {h : ℕ} → h ≡ twos m k → CanRelevel w m a i h path

@@ -19,7 +19,7 @@ use Rattle.model.proofs.Owners.{last-mid}
 use Rattle.model.proofs.Splitting.{slot-take}
 use Rattle.model.proofs.Tests.{hit, miss, test}
 use Rattle.model.proofs.Walk.{last-le}
-use Rattle.arena.specs.Owners.{Listed, Leads, Leaves}
+use Rattle.arena.specs.Owners.{Listed, Leads, NodeThere}
 use Rattle.arena.specs.declared.Path.{Path}
 use Rattle.level_links.specs.AtIndex.{insertedAt, CanInsert}
 use Rattle.levelling.specs.NodeByNode.{levelledAt, SteppedOver, Relevelled}
@@ -38,7 +38,7 @@ last-low : (h : ℕ) (aa : List Node) (y : Node) → y .height < h → last h (a
 last-low h [] y l = rw (lt-leb h (y .height) l) refl
 last-low h (a ∷ aa) y l = rw (last-low h aa y l) refl
 
-module _ {w : List ℕ} {m a i : ℕ} (p : Leaves w m a i) {h : ℕ} (hm : h ≤ m) where
+module _ {w : List ℕ} {m a i : ℕ} (p : NodeThere w m a i) {h : ℕ} (hm : h ≤ m) where
   abbrev S : State
   S = decode w
 

@@ -1,2 +1,2 @@
--- What one turn of levelling asks of words and leaves: for the crate itself, not for a reader of the promises.
+-- What one turn of levelling asks of words and leaves: for this crate itself, not for a reader of the promises.
 pub mod NodeByNode

@@ -9,7 +9,7 @@ use Rattle.model.specs.Nodes.{node, at}
 use Rattle.model.specs.Lists.{levelFrom}
 use Rattle.model.specs.Arena.{State, listOf, putList, encode}
 use Rattle.model.specs.Passes.{decode}
-use Rattle.arena.specs.Owners.{Leads, Leaves}
+use Rattle.arena.specs.Owners.{Leads, NodeThere}
 use Rattle.arena.specs.declared.Path.{Path}
 
 -- The node at index i of list a at height h; "slots and keys stay".
@@ -34,7 +34,7 @@ pub record SteppedOver (p : Path) (slot r h : ℕ) (q : Path) : Type 0 where
 
 -- The node at index i of list a can get height h; the path leads to it.
 pub record CanRelevel (w : List ℕ) (m a i h : ℕ) (p : Path) : Type 0 where
-  pub there : Leaves w m a i
+  pub there : NodeThere w m a i
   pub leads : Leads w m a i p
   pub full : Full p
   pub height : h ≤ m

@@ -10,9 +10,9 @@ use Rattle.model.specs.Lists.{lastKey}
 use Rattle.model.specs.Arena.{State, firstSlot, lastSlot, headWords, nodeWords, recordOf, slots-of}
 use Rattle.model.specs.Cells.{Cell, cellAt}
 use Rattle.model.specs.Passes.{decode, nodes}
-use Rattle.arena.specs.Mixed.{Mix}
+use Rattle.arena.specs.Between.{Between}
 use Rattle.arena.specs.Owners.{Listed}
-use Rattle.arena.proofs.Cells.{mix-start, cell-is}
+use Rattle.arena.proofs.Cells.{between-start, cell-is}
 use Rattle.arena.proofs.Relink.{there}
 use Rattle.model.proofs.Records.{head-words, node-words, slot-of}
 
@@ -42,7 +42,7 @@ module _ {w : List ℕ} {m a : ℕ} (p : Listed w m a) where
 
   cell-in : (s c : ℕ) → s < slots-of S → c < 4 → Cell w m s c
   cell-in s c l k =
-      let x : Mix m (slots-of S) (recordOf S) (recordOf S) 0 0 w = rw (p .levels) (mix-start w (p .passes) (recordOf S) 0) in
+      let x : Between m (slots-of S) (recordOf S) (recordOf S) 0 0 w = rw (p .levels) (between-start w (p .passes) (recordOf S) 0) in
       there m (slots-of S) (omega (arith, p .levels, p .passes .sizes .levels-most)) w x s c l (omega arith)
 
   word-is : (s c : ℕ) → s < slots-of S → c < 4 → cellAt m w s c ≡ getD (recordOf S s) c 0

@@ -1,11 +1,11 @@
 -- Demand 3 of every search that keeps its promise, on any words that pass and with any arguments. Rests on Limits, StoredWalks and Runs.
 use Prim.Native.Nat.{ℕ, suc, _+_, _*_, _^_, _≤_, _<_}
-use mathlib.Core.Path.{_≡_, refl, sym, ap, _∙_, subst}
+use mathlib.Core.Path.{_≡_, sym, ap, _∙_, subst}
 use mathlib.Core.List.{List, _∷_}
 use lib.ListN.{length}
 use native.Mathlib.Omega.{arith}
 use Rattle.model.specs.Arena.{State, listOf}
-use Rattle.model.specs.Calls.{Call, Answer, search, level, refusal, declined, answerTo, resultOf, Promise}
+use Rattle.model.specs.Calls.{Call, Answer, search, level, refusal, answerTo, resultOf, Promise}
 use Rattle.model.specs.Gaps.{gap, comparisons, AllOnlyTruncate}
 use Rattle.model.specs.Nodes.{smallerKeys}
 use Rattle.model.specs.Passes.{Passes, decode, nodes}
@@ -13,6 +13,7 @@ use Rattle.model.specs.Sequences.{resultsOf, Run}
 use Rattle.model.specs.StoredWalks.{keyWalkStored}
 use Rattle.model.specs.Walks.{End, ended}
 use Rattle.model.proofs.Allowed.{allowed}
+use Rattle.model.proofs.CallAnswers.{declined-number}
 use Rattle.model.proofs.Keeps.{sorted-list, low-list}
 use Rattle.model.proofs.Limits.{within-rank as by-rank, within-gap as by-gap, search-levelled}
 use Rattle.model.proofs.Runs.{run-leaves, run-passes}
@@ -25,9 +26,6 @@ answers-no-more S a k allowance = elim (test (suc a) (length (S .lists))) [
   | miss e _ ↦ rw e (omega arith)
   | hit e _ ↦ elim (test (comparisons (S .levels) k (listOf S a)) allowance) [ hit f _ ↦ rw (e, f) (omega arith) | miss f l ↦ rw (e, f) (omega arith) ]
 ]
-
-pub number-declined : (n : ℕ) (c : Call) → declined n c .number ≡ n
-number-declined n c = elim (same? n 10) [ same e q ↦ rw e (sym q) | other e q ↦ rw e refl ]
 
 module _ {w u : List ℕ} {a k allowance : ℕ} {r : Answer} (p : Promise (search a k allowance) w u r) (q : Passes w) where
   -- whatever it answers, the tally is not above the walk's
@@ -43,7 +41,7 @@ module _ {w u : List ℕ} {a k allowance : ℕ} {r : Answer} (p : Promise (searc
         | same f g ↦
             ap (λ (x : Answer). x .tally) (rw f at e)
             ∙ ap (λ (x : End). ended x .tally) (sym (key-walk-stored w q a (allowed S (search a k allowance) g .0) k))
-        | other f g ↦ absurd (g (sym (ap (λ (x : Answer). x .number) (rw f at e) ∙ number-declined (refusal S (search a k allowance)) (search a k allowance)) ∙ ok))
+        | other f g ↦ absurd (g (sym (ap (λ (x : Answer). x .number) (rw f at e) ∙ declined-number (refusal S (search a k allowance)) (search a k allowance)) ∙ ok))
       ]
 
   -- "a search for a key with r smaller keys makes at most r + M + 1 comparisons"

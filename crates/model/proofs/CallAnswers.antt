@@ -1,20 +1,18 @@
 -- What the calls answer, in document 01's words: the search's found, place and tally; the key that a removal by key takes out; refusals.
 -- Rests on ByKey, Allowed and KeysAfter.
-use Prim.Native.Nat.{ℕ, _-_, _/_, _<_}
+use Prim.Native.Nat.{ℕ, _-_, _/_}
 use mathlib.Core.Path.{_≡_, refl, sym, ap, _∙_}
 use mathlib.Core.Logic.{_≢_}
-use mathlib.Core.Bool.{Bool, true, false, cond}
 use mathlib.Core.List.{List}
 use lib.ListN.{length, getD}
-use native.Mathlib.Omega.{arith}
-use borrow.Author.Tests.{ne-eqb, lt-ltb, lt-leb}
+use borrow.Author.Tests.{ne-eqb}
 use Rattle.model.specs.Arena.{State, listOf}
-use Rattle.model.specs.Calls.{Call, search, read, removeKey, removeIndex, middle, refusal, Answer, searched, keyed, refused, beyond, accepted, declined, answerTo}
+use Rattle.model.specs.Calls.{Call, search, read, removeKey, removeIndex, middle, refusal, searched, keyed, refused, accepted, declined, answerTo}
 use Rattle.model.specs.Nodes.{Node, at, keyAt, keys, smaller, smallerKeys}
 use Rattle.model.specs.Passes.{Sound}
 use Rattle.model.specs.Walks.{ended, isFound, keyWalk}
 use Rattle.model.proofs.Allowed.{allowed}
-use Rattle.model.proofs.ByKey.{key-place, key-place-all, key-found, key-there}
+use Rattle.model.proofs.ByKey.{key-place, key-place-all, key-found}
 use Rattle.model.proofs.Keeps.{sorted-list}
 use Rattle.model.proofs.KeysAfter.{key-at}
 use Rattle.model.proofs.Tests.{same, other, same?}
@@ -30,11 +28,6 @@ declined-number n c = elim (same? n 10) [ same e q ↦ rw e (sym q) | other e q 
 pub answer-refused : (S : State) (c : Call) → refusal S c ≢ 0 → refusal S c ≢ 10 → answerTo S c ≡ refused (refusal S c)
 answer-refused S c n m = rw (ne-eqb (refusal S c) 0 n, ne-eqb (refusal S c) 10 m) refl
 
--- "which returns the allowance as its tally"
-pub answer-over : (S : State) (a k allowance : ℕ) → a < length (S .lists) → allowance < ended (keyWalk (S .levels) k (listOf S a)) .tally
-    → answerTo S (search a k allowance) ≡ beyond allowance
-answer-over S a k w l t = rw (lt-ltb a (length (S .lists)) l, lt-leb (ended (keyWalk (S .levels) k (listOf S a)) .tally) w t) refl
-
 module _ (S : State) (v : Sound S) (a k : ℕ) where
   abbrev xs : List Node
   xs = listOf S a
@@ -43,18 +36,6 @@ module _ (S : State) (v : Sound S) (a k : ℕ) where
   pub search-answers : (allowance : ℕ) → refusal S (search a k allowance) ≡ 0
       → answerTo S (search a k allowance) ≡ searched (isFound (keyWalk (S .levels) k xs)) (smallerKeys k xs) (ended (keyWalk (S .levels) k xs) .tally)
   search-answers w p = answer-accepted S (search a k w) p ∙ (rw (key-place-all (S .levels) k xs (sorted-list S v a)) refl)
-
-  -- found is 1 exactly when some key is k
-  pub search-finds : (allowance : ℕ) → refusal S (search a k allowance) ≡ 0 → (i : ℕ) → i < length xs → keyAt xs i ≡ k → answerTo S (search a k allowance) .found ≡ 1
-  search-finds w p i l e =
-      ap (λ (r : Answer). r .found) (search-answers w p) ∙ (rw (key-there (S .levels) k xs (sorted-list S v a) i l e) refl)
-
-  pub search-found : (allowance : ℕ) → refusal S (search a k allowance) ≡ 0 → answerTo S (search a k allowance) .found ≡ 1 → keyAt xs (smallerKeys k xs) ≡ k
-  search-found w p e = met (isFound (keyWalk (S .levels) k xs)) refl (sym (ap (λ (r : Answer). r .found) (search-answers w p)) ∙ e)
-    where
-      met : (b : Bool) → isFound (keyWalk (S .levels) k xs) ≡ b → _≡_ {A = ℕ} (cond b 1 0) 1 → keyAt xs (smallerKeys k xs) ≡ k
-      met true f g = rw (key-place-all (S .levels) k xs (sorted-list S v a)) at (key-found (S .levels) k xs (sorted-list S v a) f .equal)
-      met false f g = absurd (omega arith)
 
   -- "Remove, by key (the first equal) ..., answers the key": the key at the place that it takes out
   pub removal-answers : refusal S (removeKey a k) ≡ 0 → (answerTo S (removeKey a k) ≡ keyed k) × (keyAt xs (smaller k xs) ≡ k)

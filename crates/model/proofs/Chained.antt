@@ -5,7 +5,7 @@ use mathlib.Core.List.{List, [], _∷_, _++_}
 use lib.ListN.{length, getD, length-append, List·getD-append}
 use lib.Seq.{getD-append-add}
 use native.Mathlib.Omega.{arith}
-use Rattle.model.specs.Arena.{firstSlot, firstFree, absentLinks}
+use Rattle.model.specs.Arena.{toColumn, firstSlot, firstFree, absentLinks, freeWords}
 use Rattle.model.specs.Links.{linkWords, absentLink}
 use Rattle.model.specs.Cells.{cellAt}
 use Rattle.model.specs.Nodes.{Node, node, N}
@@ -110,3 +110,9 @@ absent-at (suc n) zero j p q = let e : linkWords * 0 + j ≡ j = omega arith in 
 absent-at (suc n) (suc l) j p q =
     let e : linkWords * suc l + j ≡ linkWords + (linkWords * l + j) = omega arith in
     rw e (getD-append-add absentLink (absentLinks n) (linkWords * l + j) 0 ∙ absent-at n l j (omega arith) q)
+
+-- a free node's links are absent
+pub free-field : (M : ℕ) (fs : List ℕ) (l j : ℕ) → l < M → j < linkWords → getD (freeWords M fs) (toColumn l + j) 0 ≡ getD absentLink j 0
+free-field M fs l j k q =
+    let e : toColumn l + j ≡ suc (suc (suc (suc (linkWords * l + j)))) = omega arith in
+    ap (λ (c : ℕ). getD (freeWords M fs) c 0) e ∙ absent-at M l j k q

@@ -1,5 +1,5 @@
 -- An arena passes exactly when document 01's clauses hold of it: the two theorems. Rests on Builds, Records, Columns and Chained.
-use Prim.Native.Nat.{ℕ, suc, _+_, _*_, _≤_, _<_}
+use Prim.Native.Nat.{ℕ, suc, _+_, _≤_, _<_}
 use mathlib.Core.Path.{_≡_, refl, sym, ap, _∙_, subst}
 use mathlib.Core.Bool.{true, false}
 use mathlib.Core.List.{List, [], _∷_, _++_}
@@ -14,19 +14,13 @@ use Rattle.model.specs.Links.{linkWords, linkOf, absentLink}
 use Rattle.model.specs.Nodes.{Node, node, Sorted, Low}
 use Rattle.model.specs.Passes.{decode, nodes, times, timesAll, timesFree, Sound, Passes, Chained, Clauses}
 use Rattle.model.proofs.Builds.{Reads-as, words-are}
-use Rattle.model.proofs.Chained.{stands, stands-free, chain-out, free-out, none-all, each-all, absent-at, chained-none, chained-more}
+use Rattle.model.proofs.Chained.{stands, stands-free, chain-out, free-out, none-all, each-all, free-field, chained-none, chained-more}
 use Rattle.model.proofs.Columns.{cell-record, length-encode, every-column, link-field, link-is, record-is, front-words}
 use Rattle.model.proofs.Columns.{first-chain, first-free, length-chain, length-free, nodes-are, lists-are}
 use Rattle.model.proofs.Keeps.{each-get}
 use Rattle.model.proofs.Owners.{link-column}
 use Rattle.model.proofs.Records.{length-links, length-absent, rec-encode, head-words, record-node, record-free, free-slot, placed, times-mid, timesAll-ge}
 use Rattle.model.proofs.Tests.{hit, miss, test}
-
--- a free node's links are absent
-free-field : (M : ℕ) (fs : List ℕ) (l j : ℕ) → l < M → j < linkWords → getD (freeWords M fs) (toColumn l + j) 0 ≡ getD absentLink j 0
-free-field M fs l j k q =
-    let e : toColumn l + j ≡ suc (suc (suc (suc (linkWords * l + j)))) = omega arith in
-    ap (λ (c : ℕ). getD (freeWords M fs) c 0) e ∙ absent-at M l j k q
 
 -- ---- from the clauses ----
 module _ (w : List ℕ) (c : Clauses w) where

@@ -7,7 +7,8 @@ use lib.ListN.{length, set, replicate, length-set, length-replicate}
 use native.Mathlib.Omega.{arith}
 use borrow.Author.Tests.{ne-eqb}
 use Rattle.model.specs.Arena.{State, listOf, upFrom, setUp, encode}
-use Rattle.model.specs.Calls.{Call, search, read, insertKey, removeKey, removeIndex, truncate, clear, splitAt, splitKey, appendList, middle, level, refusal, insertIn, performed, resultOf}
+use Rattle.model.specs.Calls.{Call, search, read, insertKey, removeKey, removeIndex, truncate, clear, splitAt}
+use Rattle.model.specs.Calls.{splitKey, appendList, middle, level, refusal, insertIn, performed, resultOf}
 use Rattle.model.specs.Nodes.{Node, smaller, Sorted, Low}
 use Rattle.model.specs.Passes.{decode, timesAll, timesFree, Each, Sound, Ranges, Sizes, Passes}
 use Rattle.model.specs.Sequences.{resultsOf}

@@ -5,12 +5,13 @@ use Prim.Native.Nat.{ℕ, _<_}
 use mathlib.Core.Path.{_≡_, refl, sym, ap, _∙_}
 use mathlib.Core.Logic.{_≢_}
 use mathlib.Core.List.{List, [], _∷_}
-use lib.ListN.{length, take, getD, set}
+use lib.ListN.{length, getD, set}
 use lib.Seq.{getD-set-other}
 use native.Mathlib.Omega.{arith}
 use Rattle.model.specs.Claims.{Untouched}
 use Rattle.model.specs.Arena.{State, listOf, nodeWords, encode}
-use Rattle.model.specs.Calls.{Call, search, read, insertKey, removeKey, removeIndex, truncate, clear, splitAt, splitKey, appendList, middle, level, names, Unnamed, refusal, insertIn, performed, resultOf}
+use Rattle.model.specs.Calls.{Call, search, read, insertKey, removeKey, removeIndex, truncate, clear, splitAt, splitKey}
+use Rattle.model.specs.Calls.{appendList, middle, level, names, Unnamed, refusal, insertIn, performed, resultOf}
 use Rattle.model.specs.Cells.{recordAt}
 use Rattle.model.specs.Nodes.{Node}
 use Rattle.model.specs.Passes.{Sound}
@@ -74,7 +75,3 @@ untouched S T v u k b l e =
 
 pub frame : (S : State) → Sound S → (c : Call) (b : ℕ) → b < length (S .lists) → Unnamed b (names c) → Untouched S (resultOf S c) b
 frame S v c b l n = untouched S (resultOf S c) v (sound-after S v c) (alike-after S c) b l (other-list S b c n)
-
--- mark, version, L, M and C stay, and the last word of the header is 0
-pub header-kept : (S : State) (c : Call) → (take 5 (encode (resultOf S c)) ≡ take 5 (encode S)) × (getD (encode (resultOf S c)) 7 0 ≡ 0)
-header-kept S c = let k = alike-after S c in (rw (k .lists, k .levels, k .room) refl, refl)

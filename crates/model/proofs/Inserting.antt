@@ -9,11 +9,11 @@ use native.Mathlib.Omega.{arith}
 use Rattle.model.specs.Arena.{State, nodeWords, headWords, freeWords, listOf, putList, recordOf, slots-of}
 use Rattle.model.specs.Lists.{insertAt}
 use Rattle.model.specs.Nodes.{Node, node, Sorted}
-use Rattle.model.specs.Passes.{Sound, timesFree}
+use Rattle.model.specs.Passes.{Sound}
 use Rattle.model.proofs.Hang.{InA, its-head, its-node, Hung}
 use Rattle.model.proofs.Keeps.{sound-insert-at}
 use Rattle.model.proofs.Owners.{head, listed, freed, kind}
-use Rattle.model.proofs.Records.{head-words, node-words, free-words, slot-of, free-slot, free-mid, times-mid, timesAll-ge}
+use Rattle.model.proofs.Records.{head-words, node-words, free-words, free-slot}
 use Rattle.model.proofs.Splitting.{in-first, in-second, in-of}
 use Rattle.model.proofs.Tests.{same, other, same?}
 
@@ -82,18 +82,6 @@ module _ {Z : State} {ls ms : List (List Node)} {f : ℕ} {fs : List ℕ} {a : �
 
   pub f-in : (length ls ≤ f) × (f < slots-of S)
   f-in = let q = free-slot S (p .sound-S) [] f fs refl in (q .0, q .1)
-
-  -- no owner of A is f
-  pub not-f : (s : ℕ) → InA a A s → s ≢ f
-  not-f s i e = elim i [
-    | its-head q ↦ omega (arith, q, e, f-in .0, p .list-a)
-    | its-node aa y vs h q ↦
-        let g : getD ls a [] ≡ aa ++ y ∷ (vs ++ B) = p .S-a ∙ ap (λ (t : List Node). t ++ B) h ∙ append-assoc aa (y ∷ vs) B in
-        let o = slot-of S (p .sound-S) a aa y (vs ++ B) g .2 in
-        let u = rw g at (timesAll-ge (y .slot) ls a) in
-        let r : f ≡ y .slot = sym (q ∙ e) in
-        omega (arith, o, u, times-mid aa y (vs ++ B), subst (λ (z : ℕ). 1 ≤ timesFree z (f ∷ fs)) r (free-mid [] f fs))
-  ]
 
   pub f-T : recordOf T f ≡ nodeWords (Z .levels) n B
   f-T = subst (λ (z : ℕ). recordOf T z ≡ nodeWords (Z .levels) n B) (p .slot) (node-words T (p .sound-T) a A n B (omega (arith, p .lists, p .list-a)) (p .T-a))

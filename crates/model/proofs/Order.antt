@@ -12,7 +12,7 @@ use Rattle.model.specs.Arena.{State, encode, listOf}
 use Rattle.model.specs.Walks.{isFound, placeOf, keyWalk}
 use Rattle.model.specs.Passes.{decode, nodes, Passes}
 use Rattle.model.specs.Calls.{Call, search, read, insertKey, removeKey, removeIndex, truncate, clear, splitAt, splitKey, appendList, middle, level}
-use Rattle.model.specs.Calls.{Answer, accepted, refusal, answerTo, resultOf, Room, Promise, SetUpPromise}
+use Rattle.model.specs.Calls.{Answer, accepted, refused, beyond, refusal, answerTo, resultOf, Room, Promise, SetUpPromise}
 use Rattle.model.specs.Refusals.{Applies, no-list, same-lists, too-high, none-free, not-empty-at, not-empty-key}
 use Rattle.model.specs.Refusals.{read-past, remove-past, split-past, no-middle, no-key, over}
 use Rattle.model.specs.Claims.{keysAfter, FoundFirst, Appended, LevelledAt, Untouched}
@@ -20,18 +20,21 @@ use Rattle.model.specs.Stays.{Stands, Gone}
 use Rattle.model.specs.Slices.{broken, whole}
 use Rattle.model.specs.Order.{On, Accepted, Sequences, Order}
 use Rattle.model.specs.Bench.{table}
-use Rattle.model.proofs.CallAnswers.{search-answers, read-answers, remove-answers, removal-answers, middle-answers}
-use Rattle.model.proofs.Bounded.{number-declined, is-walks, within-rank, within-gap, within-levelled}
+use Rattle.model.proofs.CallAnswers.{declined-number, answer-refused, search-answers, read-answers, remove-answers, removal-answers, middle-answers}
+use Rattle.model.proofs.Bounded.{is-walks, within-rank, within-gap, within-levelled}
 use Rattle.model.proofs.ByKey.{key-precursor, key-found, key-missing, key-place-all}
 use Rattle.model.proofs.Clauses.{passes-clauses, clauses-pass}
 use Rattle.model.proofs.EveryCall.{sound-after, passes-after, set-up-passes}
 use Rattle.model.proofs.Frame.{refused-keeps, frame}
 use Rattle.model.proofs.Keeps.{sorted-list}
 use Rattle.model.proofs.KeysAfter.{keys-inserted, keys-removed, keys-removed-key, keys-truncated, keys-cleared, keys-split, keys-split-key, keys-appended}
-use Rattle.model.proofs.Leaves.{level-heights}
-use Rattle.model.proofs.Refusals.{given-applies, lowest-given, clear-accepted}
+use Rattle.model.proofs.KeysAfter.{keys-levelled}
+use Rattle.model.proofs.Leaves.{nodes-inserted, only-insert, truncate-nothing, truncate-frees, split-nothing, append-nothing, merge-reverses, level-heights}
+use Rattle.model.proofs.Refusals.{given-applies, lowest-given, accepted-clear, clear-accepted}
 use Rattle.model.proofs.Remain.{nodes-remain}
-use Rattle.model.proofs.Runs.{model-of}
+use Rattle.model.proofs.Runs.{model-of, same-words}
+use Rattle.model.proofs.Limits.{refused-stays, search-stays, read-stays, middle-stays, other-stays}
+use Rattle.model.proofs.StoredWalks.{rank-walk-stored}
 use Rattle.model.proofs.Slices.{decided, fits, fails, history-is, history-unique, broken-held, whole-held}
 use Rattle.model.proofs.Stay.{nodes-stay}
 use Rattle.model.proofs.Tests.{same, other, same?}
@@ -55,7 +58,7 @@ accepted-number S (level a) = refl
 answer-number : (S : State) (c : Call) → answerTo S c .number ≡ refusal S c
 answer-number S c = elim (same? (refusal S c) 0) [
   | same e q ↦ rw e (accepted-number S c ∙ sym q)
-  | other e q ↦ rw e (number-declined (refusal S c) c)
+  | other e q ↦ rw e (declined-number (refusal S c) c)
 ]
 
 -- every row of a model is 3 or more
@@ -105,6 +108,16 @@ unchanged {c} {w} {u} {r} p n =
 set-up-unchanged : {L M C n : ℕ} {w u : List ℕ} → SetUpPromise L M C w u n → n ≢ 0 → u ≡ w
 set-up-unchanged {L} {M} {C} {n} {w} {u} p ne =
     either-way (List-discrete ℕ-discrete) (Room L M C (length w)) (λ q. absurd (ne (p .right q .0))) (λ b. p .wrong b .1)
+
+zeros : {c : Call} {w u : List ℕ} {r : Answer} → On c w u r → r .number ≢ 0 → r .number ≢ 10 → r ≡ refused (r .number)
+zeros {c} {w} o n m =
+    let e = number-is o in
+    answered o ∙ answer-refused (decode w) c (λ q. n (e ∙ q)) (λ q. m (e ∙ q)) ∙ ap refused (sym e)
+
+at-ten : {a k allowance : ℕ} {w u : List ℕ} {r : Answer} → On (search a k allowance) w u r → r .number ≡ 10 → r ≡ beyond allowance
+at-ten {a} {k} {allowance} {w} o e =
+    let q : refusal (decode w) (search a k allowance) ≡ 10 = sym (number-is o) ∙ e in
+    answered o ∙ (rw q refl)
 
 row-1 : {c : Call} {w u : List ℕ} {r : Answer} → Promise c w u r → (¬ Passes w → r .number ≡ 1) × (r .number ≡ 1 → ¬ Passes w)
 row-1 {c} {w} {u} {r} p = (
@@ -167,6 +180,7 @@ sequences = record {
   appends = λ {a} {b} {w} h. of-after (h .on) (Appended (decode w) a b) (keys-appended (decode w) (h .on .passes .sound) a b (none-given h));
   middles = λ {a} {w} h. ap (λ (x : Answer). x .key) (answered (h .on) ∙ middle-answers (decode w) a (none-given h));
   levels = λ {a} {w} h i l. of-after (h .on) (λ T. LevelledAt (decode w .levels) (at (nodes w a) i) (at (listOf T a) i) (suc i)) (level-heights (decode w) a (none-given h) i l);
+  levels-keys = λ {a} {w} h. keys-of (h .on) a (keys-levelled (decode w) (h .on .passes .sound) a (none-given h));
 }
 
 -- ---- the whole ----
@@ -176,6 +190,9 @@ order = record {
     row-1 = row-1;
     lowest = λ {c} {w} o n a f. number-is o ∙ lowest-given (decode w) (o .passes .sound) c n a f;
     none = λ {c} {w} o f. number-is o ∙ clear-accepted (decode w) (o .passes .sound) c f;
+    stated = λ {c} {w} o e. accepted-clear (decode w) (o .passes .sound) c (sym (number-is o) ∙ e);
+    zeros = zeros;
+    allowance = at-ten;
     unchanged = unchanged;
     set-up-unchanged = set-up-unchanged;
   };
@@ -188,17 +205,29 @@ order = record {
     stay = λ {c} {w} o y h. nodes-stay y (decode w) c (subst (Stands y) (after o) h);
     remain = λ {c} {w} o y h. of-after o (λ T. Stands y T ⊎ Gone (decode w) c y) (nodes-remain y (decode w) c h);
   };
+  rules = record {
+    inserted = nodes-inserted;
+    before-equals = only-insert;
+    truncate-nothing = truncate-nothing;
+    truncate-frees = truncate-frees;
+    split-nothing = split-nothing;
+    append-nothing = append-nothing;
+    merge-reverses = merge-reverses;
+  };
   bounding = record {
     walks = λ h. is-walks (h .on .promise) (h .on .passes) (h .number);
+    rank-walks = λ {w} p a t l. rank-walk-stored w p a l t;
     precursors = λ {w} p a k l q. key-precursor (decode w .levels) k (nodes w a) (sorted-list (decode w) (p .sound) a) l q;
     by-rank = λ o. within-rank (o .promise) (o .passes);
     by-gap = λ o. within-gap (o .promise) (o .passes);
     levelled = λ q run only o few. within-levelled q run only (o .promise) few;
   };
+  staying = record { refusals = refused-stays; searches = search-stays; reads = read-stays; middles = middle-stays; others = other-stays };
   holding = record {
     call = call-unique;
     set-up = set-up-unique;
     check = check-unique;
+    words = same-words;
     sequence = history-unique;
     from-broken = λ n. history-is (broken _) (broken-held n);
     from-whole = λ p. history-is (whole _) (whole-held p);

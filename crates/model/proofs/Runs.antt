@@ -3,16 +3,14 @@
 -- no such run. Rests on Records (words read back), EveryCall (every call leaves an arena that passes) and Unique (one call).
 use Prim.Native.Nat.{ℕ}
 use mathlib.Core.Path.{_≡_, refl, sym, ap, ap₂, _∙_, subst}
-use mathlib.Core.List.{List, _∷_, map}
-use lib.ListN.{length}
-use Rattle.model.specs.Arena.{State, encode, setUp}
-use Rattle.model.specs.Calls.{Call, Answer, resultOf, refused, Room, SetUpPromise}
+use mathlib.Core.List.{List, _∷_}
+use Rattle.model.specs.Arena.{State, encode}
+use Rattle.model.specs.Calls.{Call, Answer, resultOf}
 use Rattle.model.specs.Passes.{decode, Sound, Sizes, Passes}
 use Rattle.model.specs.Sequences.{answersTo, resultsOf, Run, done, next}
 use Rattle.model.proofs.Builds.{passes-encode}
-use Rattle.model.proofs.EveryCall.{passes-after, sound-after, sound-after-all, set-up-sound, set-up-sizes}
+use Rattle.model.proofs.EveryCall.{passes-after, sound-after, sound-after-all}
 use Rattle.model.proofs.Records.{decode-encode}
-use Rattle.model.proofs.Unique.{call-unique}
 
 -- ---- words and models ----
 -- two arenas that pass and hold the same model have the same words
@@ -48,28 +46,3 @@ run-leaves {w} {cs = cs} r p = model-of (resultsOf (decode w) cs) (sound-after-a
 pub run-passes : {w u : List ℕ} {cs : List Call} {rs : List Answer} → Run w cs rs u → Passes w → Passes u
 run-passes done p = p
 run-passes (next {c = c} q rest) p = run-passes rest (subst Passes (sym (q .whole p .1)) (passes-after p c))
-
--- words that do not pass stay, and every call answers 1
-pub run-broken : {w u : List ℕ} {cs : List Call} {rs : List Answer} → Run w cs rs u → ¬ Passes w → (rs ≡ map (λ c. refused 1) cs) × (u ≡ w)
-run-broken done n = (refl, refl)
-run-broken {w} (next q rest) n =
-    let a = q .broken n in
-    let i = run-broken rest (subst (λ (v : List ℕ). ¬ Passes v) (sym (a .1)) n) in
-    (ap₂ (λ (r : Answer) (rs : List Answer). r ∷ rs) (a .0) (i .0), i .1 ∙ a .1)
-
--- from any words, calls have one run
-pub run-unique : {w u v : List ℕ} {cs : List Call} {rs qs : List Answer} → Run w cs rs u → Run w cs qs v → (rs ≡ qs) × (u ≡ v)
-run-unique done done = (refl, refl)
-run-unique (next p r) (next {u = u} {cs = cs} {rs = qs} q s) =
-    let a = call-unique p q in
-    let i = run-unique r (subst (λ (x : List ℕ). Run x cs qs u) (sym (a .1)) s) in
-    (ap₂ (λ (x : Answer) (xs : List Answer). x ∷ xs) (a .0) (i .0), i .1)
-
--- from a set-up on
-pub run-from-set-up : {L M C n : ℕ} {before w u : List ℕ} {cs : List Call} {rs : List Answer} → SetUpPromise L M C before w n → Room L M C (length before) → Run w cs rs u
-    → (rs ≡ answersTo (setUp L M C) cs) × (u ≡ encode (resultsOf (setUp L M C) cs))
-run-from-set-up {L} {M} {C} {cs = cs} p r run =
-    let a = p .right r .1 in
-    let i = run-is run (passes-model (setUp L M C) (set-up-sound L M C) (set-up-sizes (r .ranges)) a) in
-    let e = model-of (setUp L M C) (set-up-sound L M C) a in
-    (i .0 ∙ ap (λ (S : State). answersTo S cs) e, i .1 ∙ ap (λ (S : State). encode (resultsOf S cs)) e)

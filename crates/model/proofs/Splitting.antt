@@ -149,3 +149,10 @@ last-drop xs zero l = refl
 last-drop [] (suc j) l = absurd (omega arith)
 last-drop (y ∷ []) (suc j) l = absurd (omega arith)
 last-drop (y ∷ z ∷ xs) (suc j) l = last-drop (z ∷ xs) j (omega arith)
+
+-- the last slot of two lists is that of the second
+pub last-joined : (aa bb : List Node) → 0 < length bb → lastSlot (aa ++ bb) ≡ lastSlot bb
+last-joined [] bb l = refl
+last-joined (a ∷ aa) [] l = absurd (omega arith)
+last-joined (a ∷ []) (b ∷ bb) l = refl
+last-joined (a ∷ c ∷ aa) (b ∷ bb) l = last-joined (c ∷ aa) (b ∷ bb) l

@@ -6,7 +6,8 @@ use mathlib.Core.Logic.{_⊎_, inl, inr}
 use mathlib.Core.List.{List, [], _∷_, _++_}
 use lib.ListN.{take, drop, getD, set}
 use Rattle.model.specs.Arena.{State, listOf, firstFree}
-use Rattle.model.specs.Calls.{Call, search, read, insertKey, removeKey, removeIndex, truncate, clear, splitAt, splitKey, appendList, middle, level, insertIn, doSplit, doLevel, performed, resultOf}
+use Rattle.model.specs.Calls.{Call, search, read, insertKey, removeKey, removeIndex, truncate, clear, splitAt}
+use Rattle.model.specs.Calls.{splitKey, appendList, middle, level, insertIn, doSplit, doLevel, performed, resultOf}
 use Rattle.model.specs.Lists.{insertAt, insert, removeAt, mergeIn, append, levelFrom}
 use Rattle.model.specs.Nodes.{Node, node, smaller}
 use Rattle.model.specs.Stays.{Has, Stands, Stated}

@@ -3,7 +3,7 @@ use Prim.Native.Nat.{ℕ, zero, suc, _+_, _-_, _≤_, _<_}
 use mathlib.Core.Path.{_≡_, refl, ap, _∙_}
 use mathlib.Core.Logic.{_≢_}
 use mathlib.Core.List.{List, [], _∷_, _++_}
-use mathlib.Core.Option.{Option, none, some}
+use mathlib.Core.Option.{none, some}
 use lib.Dec.{eqb·suc-zero}
 use lib.ListN.{length, take, drop, getD, length-drop}
 use lib.Seq.{split-at, getD-drop, drop-cons}
@@ -15,7 +15,7 @@ use Rattle.model.specs.Links.{distance, target, linkOf}
 use Rattle.model.specs.Nodes.{Node, node, N, at, keyAt, slotAt, heightAt}
 use Rattle.model.specs.Passes.{decode, nodes, Passes}
 use Rattle.model.specs.StoredWalks.{Spot, spot, alongStored, descendStored, nextStored, keyWalkStored}
-use Rattle.model.specs.StoredWalks.{alongRanksStored, descendRanksStored, nextRanksStored, rankWalkStored}
+use Rattle.model.specs.StoredWalks.{alongRanksStored, descendRanksStored, nextRanksStored, rankWalkStored, spotAt}
 use Rattle.model.specs.Walks.{Stand, stand, along, descend, byNext, keyWalk, alongRanks, descendRanks, nextRanks, rankWalk}
 use Rattle.model.proofs.Clauses.{passes-clauses, head-cell, node-cell}
 use Rattle.model.proofs.Columns.{lists-are}
@@ -193,12 +193,7 @@ module _ (w : List ℕ) (p : Passes w) (a : ℕ) (la : a < length (decode w .lis
       let g = along-ranks-same (length xs) l t r lm i u in
       rw (g .same) (descend-ranks-same l t (alongRanks (length xs) l t xs r) (omega arith) (g .inside) (omega (arith, g .tall)))
 
-  -- the slot of a rank, where there is one
-  abbrev at-rank : Option ℕ → Option Spot
-  at-rank none = none
-  at-rank (some r) = some (spot (slotAt a xs r) r 0)
-
-  next-ranks-same : (n t r : ℕ) → r ≤ length xs → length xs ≤ r + n → nextRanksStored n M w t (spot-at (stand r 0)) ≡ at-rank (nextRanks t r (drop r xs))
+  next-ranks-same : (n t r : ℕ) → r ≤ length xs → length xs ≤ r + n → nextRanksStored n M w t (spot-at (stand r 0)) ≡ spotAt a xs (nextRanks t r (drop r xs))
   next-ranks-same zero t r i j = elim (same? r t) [
     | same e _ ↦ rw (nothing-left r (omega arith), e) refl
     | other e _ ↦ rw (nothing-left r (omega arith), e) refl
@@ -217,7 +212,7 @@ module _ (w : List ℕ) (p : Passes w) (a : ℕ) (la : a < length (decode w .lis
         ]
   ]
 
-  pub rank-walk-stored : (t : ℕ) → rankWalkStored M w a t ≡ at-rank (rankWalk M t xs)
+  pub rank-walk-stored : (t : ℕ) → rankWalkStored M w a t ≡ spotAt a xs (rankWalk M t xs)
   rank-walk-stored t =
       let g = descend-ranks-same M t 0 (omega arith) (omega arith) (omega arith) in
       rw (count, g .same) (next-ranks-same (length xs) t (descendRanks M t xs 0) (g .inside) (omega arith))

@@ -7,17 +7,19 @@ use mathlib.Core.Bool.{Bool}
 use mathlib.Core.List.{List, [], _∷_, _++_}
 use lib.ListN.{length, take, drop, getD}
 use Rattle.model.specs.Nodes.{Node, at, keys, keyAt, smallerKeys}
-use Rattle.model.specs.Walks.{ended}
-use Rattle.model.specs.Passes.{decode, nodes, Passes, Clauses}
-use Rattle.model.specs.StoredWalks.{keyWalkStored}
+use Rattle.model.specs.Walks.{ended, rankWalk}
+use Rattle.model.specs.Lists.{insert, mergeIn}
+use Rattle.model.specs.Arena.{State, listOf, firstFree, lastSlot}
+use Rattle.model.specs.Passes.{decode, nodes, Sound, Passes, Clauses}
+use Rattle.model.specs.StoredWalks.{keyWalkStored, rankWalkStored, spotAt}
 use Rattle.model.specs.Calls.{Call, search, read, insertKey, removeKey, removeIndex, truncate, clear, splitAt, splitKey, appendList, middle, level}
-use Rattle.model.specs.Calls.{names, Unnamed, Answer, resultOf, Promise, SetUpPromise, CheckPromise}
+use Rattle.model.specs.Calls.{names, Unnamed, Answer, refused, beyond, refusal, resultOf, Promise, SetUpPromise, CheckPromise}
 use Rattle.model.specs.Refusals.{Applies}
 use Rattle.model.specs.Sequences.{Run}
 use Rattle.model.specs.Slices.{Act, Reply, History, Holds, replies, heldAfter, broken, whole}
-use Rattle.model.specs.Claims.{precursorRank, LastBelow, FoundFirst, Appended, LevelledAt, Untouched}
+use Rattle.model.specs.Claims.{precursorRank, LastBelow, FoundFirst, Appended, Inserted, only, backwards, LevelledAt, Untouched}
 use Rattle.model.specs.Stays.{Stands, Stated, Gone}
-use Rattle.model.specs.Gaps.{gap, AllOnlyTruncate}
+use Rattle.model.specs.Gaps.{gap, OnlyTruncates, AllOnlyTruncate}
 use Rattle.model.specs.Bench.{Table}
 
 -- On words w that pass, the call c answers r and leaves the words u; it is accepted.
@@ -34,6 +36,9 @@ pub record Refusing : Type 0 where
   pub row-1 : {c : Call} {w u : List ℕ} {r : Answer} → Promise c w u r → (¬ Passes w → r .number ≡ 1) × (r .number ≡ 1 → ¬ Passes w)
   pub lowest : {c : Call} {w u : List ℕ} {r : Answer} → On c w u r → (n : ℕ) → Applies (decode w) c n → ((m : ℕ) → Applies (decode w) c m → n ≤ m) → r .number ≡ n
   pub none : {c : Call} {w u : List ℕ} {r : Answer} → On c w u r → ((m : ℕ) → Applies (decode w) c m → ⊥) → r .number ≡ 0
+  pub stated : {c : Call} {w u : List ℕ} {r : Answer} → On c w u r → r .number ≡ 0 → (m : ℕ) → Applies (decode w) c m → ⊥
+  pub zeros : {c : Call} {w u : List ℕ} {r : Answer} → On c w u r → r .number ≢ 0 → r .number ≢ 10 → r ≡ refused (r .number)
+  pub allowance : {a k allowance : ℕ} {w u : List ℕ} {r : Answer} → On (search a k allowance) w u r → r .number ≡ 10 → r ≡ beyond allowance
   pub unchanged : {c : Call} {w u : List ℕ} {r : Answer} → Promise c w u r → r .number ≢ 0 → u ≡ w
   pub set-up-unchanged : {L M C n : ℕ} {w u : List ℕ} → SetUpPromise L M C w u n → n ≢ 0 → u ≡ w
 
@@ -59,6 +64,7 @@ pub record Sequences : Type 0 where
   pub middles : {a : ℕ} {w u : List ℕ} {r : Answer} → Accepted (middle a) w u r → r .key ≡ getD (keys (nodes w a)) ((length (nodes w a) - 1) / 2) 0
   pub levels : {a : ℕ} {w u : List ℕ} {r : Answer} → Accepted (level a) w u r → (i : ℕ) → i < length (nodes w a)
       → LevelledAt (decode w .levels) (at (nodes w a) i) (at (nodes u a) i) (suc i)
+  pub levels-keys : {a : ℕ} {w u : List ℕ} {r : Answer} → Accepted (level a) w u r → keys (nodes u a) ≡ keys (nodes w a)
 
 -- Demand 2: "and leaves the stated records and links, word for word".
 pub record Leaving : Type 0 where
@@ -69,9 +75,23 @@ pub record Leaving : Type 0 where
   pub stay : {c : Call} {w u : List ℕ} {r : Answer} → On c w u r → (y : Node) → Stands y (decode u) → Stands y (decode w) ⊎ Stated (decode w) c y
   pub remain : {c : Call} {w u : List ℕ} {r : Answer} → On c w u r → (y : Node) → Stands y (decode w) → Stands y (decode u) ⊎ Gone (decode w) c y
 
+-- "What each operation leaves", of the nodes of a model.
+pub record Rules : Type 0 where
+  pub inserted : (S : State) → Sound S → (a k h f : ℕ) (fs : List ℕ) → S .free ≡ f ∷ fs → refusal S (insertKey a k h) ≡ 0
+      → Inserted S a k h f fs (resultOf S (insertKey a k h))
+  pub before-equals : (n : Node) (xs : List Node) → only (n .key) (insert n xs) ≡ n ∷ only (n .key) xs
+  pub truncate-nothing : (S : State) (a n : ℕ) → length (listOf S a) ≤ n → resultOf S (truncate a n) ≡ S
+  pub truncate-frees : (S : State) (a n : ℕ) → refusal S (truncate a n) ≡ 0 → n < length (listOf S a)
+      → firstFree (resultOf S (truncate a n) .free) ≡ lastSlot (listOf S a)
+  pub split-nothing : (S : State) (a b : ℕ) → resultOf S (splitAt a b (length (listOf S a))) ≡ S
+  pub append-nothing : (S : State) (a b : ℕ) → listOf S b ≡ [] → resultOf S (appendList a b) ≡ S
+  pub merge-reverses : (k : ℕ) (bb aa : List Node) → only k (mergeIn bb aa) ≡ backwards (only k bb) (only k aa)
+
 -- Demand 3: "Bounded search."
 pub record Bounding : Type 0 where
   pub walks : {a k allowance : ℕ} {w u : List ℕ} {r : Answer} → Accepted (search a k allowance) w u r → r .tally ≡ ended (keyWalkStored (decode w .levels) w a k) .tally
+  pub rank-walks : {w : List ℕ} → Passes w → (a t : ℕ) → a < length (decode w .lists)
+      → rankWalkStored (decode w .levels) w a t ≡ spotAt a (nodes w a) (rankWalk (decode w .levels) t (nodes w a))
   pub precursors : {w : List ℕ} → Passes w → (a k l : ℕ) → l < decode w .levels → LastBelow (suc l) k (nodes w a) (precursorRank (decode w .levels) k (nodes w a) l)
   pub by-rank : {a k allowance : ℕ} {w u : List ℕ} {r : Answer} → On (search a k allowance) w u r → r .tally ≤ smallerKeys k (nodes w a) + decode w .levels + 1
   pub by-gap : {a k allowance : ℕ} {w u : List ℕ} {r : Answer} → On (search a k allowance) w u r → r .tally ≤ (gap (decode w .levels) (nodes w a) + 1) * (decode w .levels + 1)
@@ -79,11 +99,20 @@ pub record Bounding : Type 0 where
       → AllOnlyTruncate a (resultOf (decode w) (level a)) cs → On (search a k allowance) u v r → length (nodes u a) < 2 ^ suc (decode u .levels)
       → r .tally ≤ 2 * decode u .levels + 2
 
+-- Which calls leave list a as it was: those that are refused, that only read, and that name other lists.
+pub record Staying : Type 0 where
+  pub refusals : (S : State) (a : ℕ) (c : Call) → refusal S c ≢ 0 → OnlyTruncates a S c
+  pub searches : (S : State) (a b k allowance : ℕ) → OnlyTruncates a S (search b k allowance)
+  pub reads : (S : State) (a b i : ℕ) → OnlyTruncates a S (read b i)
+  pub middles : (S : State) (a b : ℕ) → OnlyTruncates a S (middle b)
+  pub others : (S : State) (a : ℕ) (c : Call) → Unnamed a (names c) → OnlyTruncates a S c
+
 -- "For every input, refusals included, each public function's promise allows one answer and one content of the lent words", also "over any sequence".
 pub record Holding : Type 0 where
   pub call : {c : Call} {w u v : List ℕ} {r s : Answer} → Promise c w u r → Promise c w v s → (r ≡ s) × (u ≡ v)
   pub set-up : {L M C m n : ℕ} {w u v : List ℕ} → SetUpPromise L M C w u m → SetUpPromise L M C w v n → (m ≡ n) × (u ≡ v)
   pub check : {w : List ℕ} {a b : Bool} → CheckPromise w a → CheckPromise w b → a ≡ b
+  pub words : {w v : List ℕ} → Passes w → Passes v → decode w ≡ decode v → w ≡ v
   pub sequence : {w u v : List ℕ} {acts : List Act} {rs qs : List Reply} → History w acts rs u → History w acts qs v → (rs ≡ qs) × (u ≡ v)
   pub from-broken : {w u : List ℕ} {acts : List Act} {rs : List Reply} → ¬ Passes w → History w acts rs u
       → (rs ≡ replies (broken w) acts) × Holds u (heldAfter (broken w) acts)
@@ -94,6 +123,8 @@ pub record Order : Type 0 where
   pub refusing : Refusing
   pub sequences : Sequences
   pub leaving : Leaving
+  pub rules : Rules
   pub bounding : Bounding
+  pub staying : Staying
   pub holding : Holding
   pub bench : Table

@@ -5,7 +5,7 @@ use mathlib.Core.Bool.{cond}
 use mathlib.Core.List.{List}
 use mathlib.Core.Option.{Option, none, some}
 use lib.Dec.{ltb, eqb}
-use Rattle.model.specs.Nodes.{N}
+use Rattle.model.specs.Nodes.{Node, N, slotAt}
 use Rattle.model.specs.Arena.{countColumn, keyColumn, nextColumn, toColumn, farColumn}
 use Rattle.model.specs.Cells.{cellAt}
 use Rattle.model.specs.Walks.{End, found, missing, stand}
@@ -76,3 +76,8 @@ abbrev pub rankWalkStored : ℕ → List ℕ → ℕ → ℕ → Option Spot
 rankWalkStored M w a t =
     let n = cellAt M w a countColumn in
     nextRanksStored n M w t (descendRanksStored M n M w t (spot a 0 0))
+
+-- The spot at a rank of list a, where there is one.
+abbrev pub spotAt : ℕ → List Node → Option ℕ → Option Spot
+spotAt a xs none = none
+spotAt a xs (some r) = some (spot (slotAt a xs r) r 0)

@@ -20,7 +20,7 @@ use Rattle.model.proofs.Owners.{next-column}
 use Rattle.model.proofs.Splitting.{last-slot-take}
 use Rattle.model.proofs.Tests.{same, other, same?}
 use Rattle.model.proofs.Walk.{last-zero}
-use Rattle.arena.specs.Owners.{Leaves}
+use Rattle.arena.specs.Owners.{NodeThere}
 use Rattle.arena.proofs.Relink.{Half, there}
 use Rattle.level_links.specs.AtIndex.{NodeIs}
 use Rattle.level_links.specs.OneLevel.{LinksDone}
@@ -31,7 +31,7 @@ use Rattle.chain_words.specs.declared.Record.{Record}
 use Rattle.chain_words.proofs.ChainReads.{first-is, number-is, last-new, lies}
 use Rattle.chain_words.proofs.ChainDone.{ChainIs, chain-done, free-done}
 
-module _ {w₀ : List ℕ} {m a i : ℕ} (p : Leaves w₀ m a i) where
+module _ {w₀ : List ℕ} {m a i : ℕ} (p : NodeThere w₀ m a i) where
   abbrev S : State
   S = decode w₀
 
@@ -59,10 +59,10 @@ module _ {w₀ : List ℕ} {m a i : ℕ} (p : Leaves w₀ m a i) where
   a-in = omega (arith, p .listed .list)
 
   word : (s c : ℕ) → s < slots-of S → c < 4 → cellAt m w₀ s c ≡ getD (recordOf S s) c 0
-  word s c l j = remove-start p .mixed .below s c l (omega arith) j
+  word s c l j = remove-start p .between .below s c l (omega arith) j
 
   cell-of : (s c : ℕ) → s < slots-of S → c < 4 → Cell w₀ m s c
-  cell-of s c l j = there m (slots-of S) (small p) w₀ (remove-start p .mixed) s c l (omega arith)
+  cell-of s c l j = there m (slots-of S) (small p) w₀ (remove-start p .between) s c l (omega arith)
 
   pub cell-head : (c : ℕ) → c < 4 → Cell w₀ m a c
   cell-head c l = cell-of a c a-in l
@@ -147,9 +147,9 @@ module _ {w₀ : List ℕ} {m a i : ℕ} (p : Leaves w₀ m a i) where
     module _ {w₁ : List ℕ} (g : LinksDone w₀ T m w₁) where
       pub chain-lies : {z : ℕ} → z ≡ cellAt m w₀ e nextColumn → ChainLies w₁ m a e z
       chain-lies q = rw (out-is q) (record {
-        head = lies (small p) (g .mixed) a a-in;
-        end = lies (small p) (g .mixed) e (st .known);
-        node = lies (small p) (g .mixed) o (o-in p);
+        head = lies (small p) (g .between) a a-in;
+        end = lies (small p) (g .between) e (st .known);
+        node = lies (small p) (g .between) o (o-in p);
       })
 
       module _ {z next n l last first free : ℕ} (q : Reads e z next n l last first free) where
@@ -171,7 +171,7 @@ module _ {w₀ : List ℕ} {m a i : ℕ} (p : Leaves w₀ m a i) where
 
         pub remove-done : {w₂ w₃ : List ℕ} → w₂ ≡ putChain m w₁ (new-head n last) e next (freed-node z first) → w₃ ≡ putFree w₂ z (free + 1) → w₃ ≡ encode T
         remove-done e₂ e₃ =
-            let half : Half S T (header S) m 4 w₁ = record { front = g .front ∙ ap (take 8) (p .listed .passes .words); mixed = g .mixed } in
+            let half : Half S T (header S) m 4 w₁ = record { front = g .front ∙ ap (take 8) (p .listed .passes .words); between = g .between } in
             let chained = chain-done (H p) (o-in p) (p .listed .levels) st chain-is half in
             e₃ ∙ ap (λ (t : List ℕ). putFree t z (free + 1)) e₂
             ∙ free-done (H p) (o-in p) (p .listed .levels) st chained z (free + 1) (out-is (q .slot)) (omega (arith, q .number, number-is w₀ (p .listed .passes)))

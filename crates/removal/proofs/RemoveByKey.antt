@@ -12,7 +12,7 @@ use denote.Enum.Declared.{tagOf}
 use Rattle.model.specs.Nodes.{Node, keyAt, smaller, Sorted}
 use Rattle.model.specs.Walks.{End, ended, isFound, keyWalk}
 use Rattle.model.specs.Arena.{State, encode}
-use Rattle.model.specs.Calls.{Answer, accepted, answerTo, search, doRemove, searched, keyed, refused}
+use Rattle.model.specs.Calls.{Answer, accepted, answerTo, search, doRemove, searched, keyed}
 use Rattle.model.specs.Passes.{decode, nodes}
 use Rattle.model.proofs.Allowed.{not-refused}
 use Rattle.model.proofs.ByKey.{key-place, key-found}
@@ -21,7 +21,7 @@ use Rattle.model.proofs.EveryCall.{found-within}
 use Rattle.model.proofs.Keeps.{each-get}
 use Rattle.model.proofs.Searching.{walk-tally}
 use Rattle.model.proofs.Walk.{smaller-le, tally-le}
-use Rattle.arena.specs.Owners.{Listed, Leaves}
+use Rattle.arena.specs.Owners.{Listed, NodeThere}
 use Rattle.arena.specs.declared.Index.{Index}
 use Rattle.key_walk.specs.SearchAnswer.{answerOf}
 use Rattle.key_walk.specs.declared.Searched.{Searched}
@@ -96,7 +96,7 @@ module _ {w : List ℕ} {m a : ℕ} (p : Listed w m a) (k : ℕ) where
       key-is : keyAt xs (i .0) ≡ k
       key-is = rw (place-is, ← key-place (S .levels) k xs sorted) (key-found (S .levels) k xs sorted found .equal)
 
-      pub goes-out : Leaves w m a (i .0)
+      pub goes-out : NodeThere w m a (i .0)
       goes-out = rw place-is (record { listed = p; index = found-within S (p .passes .sound) a k (p .list, found) })
 
       pub removed-words : {x : ℕ} {u : List ℕ} → u ≡ encode (doRemove S a (i .0)) → x ≡ keyAt xs (i .0) → RemovedKey a k w u (removed.Key x)

@@ -29,7 +29,7 @@ ghost use Rattle.model.specs.Nodes.{N, keyAt};
 ghost use Rattle.model.specs.Arena.{encode};
 ghost use Rattle.model.specs.Calls.{doRemove};
 ghost use Rattle.model.specs.Passes.{decode, nodes};
-ghost use Rattle.arena.specs.Owners.{Listed, Leads, Leaves};
+ghost use Rattle.arena.specs.Owners.{Listed, Leads, NodeThere};
 ghost use Rattle.removal.specs.RemovalAnswer.{RemovedKey};
 
 // The last node's slot, once the node at index i of n is gone; slot `end` stands before it.
@@ -46,7 +46,7 @@ fn last_without(i: Index, n: u32, end: Slot, last: u32) -> u32
 
 // The node at index i goes, and its slot stands first on the free chain; answers its key.
 pub fn remove_after(w: &mut [u32], m: usize, list: Slot, i: Index, path: Path) -> Key
-    requires { ⌜ Leaves (now w) m (list .0) (i .0) × Leads (now w) m (list .0) (i .0) path ⌝ }
+    requires { ⌜ NodeThere (now w) m (list .0) (i .0) × Leads (now w) m (list .0) (i .0) path ⌝ }
     ensures { λ r. ⌜ now (w .exit) ≡ encode (doRemove (decode (now (w .entry))) (list .0) (i .0)) × (r ≡ keyAt (nodes (now (w .entry)) (list .0)) (i .0)) ⌝ }
 {
     let end = path.end;
@@ -77,7 +77,7 @@ pub fn remove_after(w: &mut [u32], m: usize, list: Slot, i: Index, path: Path) -
 
 // "Remove, by .. index, answers the key and puts its slot in front of the free chain."
 pub fn remove_at(w: &mut [u32], m: usize, list: Slot, i: Index) -> Key
-    requires { ⌜ Leaves (now w) m (list .0) (i .0) ⌝ }
+    requires { ⌜ NodeThere (now w) m (list .0) (i .0) ⌝ }
     ensures { λ r. ⌜ now (w .exit) ≡ encode (doRemove (decode (now (w .entry))) (list .0) (i .0)) × (r ≡ keyAt (nodes (now (w .entry)) (list .0)) (i .0)) ⌝ }
 {
     let path = rank_walk::seek(w, m, list, i);

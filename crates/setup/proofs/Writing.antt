@@ -16,9 +16,9 @@ use Rattle.model.specs.Calls.{Room, SetUpPromise}
 use Rattle.model.proofs.Chained.{absent-at}
 use Rattle.model.proofs.Tests.{hit, miss, test, same, other, same?}
 use Rattle.arena.specs.Decides.{Decides}
-use Rattle.arena.specs.Lies.{Lies}
+use Rattle.arena.specs.RecordIn.{RecordIn}
 use Rattle.arena.specs.Linked.{LinkIn, putRow, putLink}
-use Rattle.arena.proofs.Cells.{row-size, row-same, row-other, mix-end}
+use Rattle.arena.proofs.Cells.{row-size, row-same, row-other, between-end}
 use Rattle.arena.proofs.Deciding.{no}
 use Rattle.setup.specs.declared.Front.{Front}
 use Rattle.setup.specs.NewRecords.{frontWords, bareRecord, Written, FirstNew, HeaderSet}
@@ -27,7 +27,7 @@ use Rattle.setup.specs.NewRecords.{frontWords, bareRecord, Written, Firs
 write-none : {M s lo : ℕ} {R w : List ℕ} → Written M w s R lo lo w
 write-none = record { size = refl; here = λ c a b. absurd (omega arith); rest = λ z c k out. refl }
 
-write-row : {M s lo hi : ℕ} {R w₀ w : List ℕ} (ks : List ℕ) → Lies w₀ M s → lo ≤ hi → hi + length ks ≤ width M
+write-row : {M s lo hi : ℕ} {R w₀ w : List ℕ} (ks : List ℕ) → RecordIn w₀ M s → lo ≤ hi → hi + length ks ≤ width M
     → ((j : ℕ) → j < length ks → getD R (hi + j) 0 ≡ getD ks j 0) → Written M w₀ s R lo hi w → Written M w₀ s R lo (hi + length ks) (putRow M w s hi ks)
 write-row {M} {s} {lo} {hi} {R} {w₀} {w} ks i lh l is h = record {
   size = row-size M s w hi ks ∙ h .size;
@@ -45,7 +45,7 @@ write-row {M} {s} {lo} {hi} {R} {w₀} {w} ks i lh l is h = record {
 bare-front : (M : ℕ) (f : Front) (j : ℕ) → j < length (frontWords f) → getD (bareRecord M f) (0 + j) 0 ≡ getD (frontWords f) j 0
 bare-front M f j l = let e : 0 + j ≡ j = omega arith in rw e (List·getD-append (frontWords f) (absentLinks M) 0 j l)
 
-pub front-written : {M s : ℕ} (f : Front) {w u : List ℕ} → Lies w M s → u ≡ putRow M w s 0 (frontWords f) → Written M w s (bareRecord M f) 0 (toColumn 0) u
+pub front-written : {M s : ℕ} (f : Front) {w u : List ℕ} → RecordIn w M s → u ≡ putRow M w s 0 (frontWords f) → Written M w s (bareRecord M f) 0 (toColumn 0) u
 front-written {M} f i e = rw e (write-row (frontWords f) i (omega arith) (omega arith) (bare-front M f) write-none)
 
 bare-link : (M : ℕ) (f : Front) (l j : ℕ) → l < M → j < linkWords → getD (bareRecord M f) (toColumn l + j) 0 ≡ getD absentLink j 0
@@ -53,16 +53,16 @@ bare-link M f l j k q =
     let e : toColumn l + j ≡ suc (suc (suc (suc (linkWords * l + j)))) = omega arith in
     ap (λ (c : ℕ). getD (bareRecord M f) c 0) e ∙ absent-at M l j k q
 
-pub still-lies : {M s lo hi : ℕ} {R w u : List ℕ} → Lies w M s → Written M w s R lo hi u → Lies u M s
+pub still-lies : {M s lo hi : ℕ} {R w u : List ℕ} → RecordIn w M s → Written M w s R lo hi u → RecordIn u M s
 still-lies i h = record { small = i .small; inside = omega (arith, i .inside, h .size) }
 
-pub link-lies : {M s l lo hi : ℕ} {R w u : List ℕ} → Lies w M s → Written M w s R lo hi u → l < M → LinkIn u M s l
+pub link-lies : {M s l lo hi : ℕ} {R w u : List ℕ} → RecordIn w M s → Written M w s R lo hi u → l < M → LinkIn u M s l
 link-lies i h k = record { small = i .small; level = k; inside = omega (arith, i .inside, h .size) }
 
 pub no-links-written : {M s : ℕ} {R w : List ℕ} → Written M w s R (toColumn 0) (toColumn 0) w
 no-links-written = write-none
 
-pub link-written : {M s l : ℕ} {f : Front} {w₀ w u : List ℕ} → Lies w₀ M s → l < M → Written M w₀ s (bareRecord M f) (toColumn 0) (toColumn l) w
+pub link-written : {M s l : ℕ} {f : Front} {w₀ w u : List ℕ} → RecordIn w₀ M s → l < M → Written M w₀ s (bareRecord M f) (toColumn 0) (toColumn l) w
     → u ≡ putLink M w s l absentLink → Written M w₀ s (bareRecord M f) (toColumn 0) (toColumn (l + 1)) u
 unfolding putLink
 link-written {M} {s} {l} {f} i k h e =
@@ -84,7 +84,7 @@ all-written {M} {s} {l} l≤ ≤l f h = record {
 pub new-none : {L M n : ℕ} {w : List ℕ} → FirstNew L M n w 0 w
 new-none = record { size = refl; records = λ s c l k. absurd (omega arith) }
 
-pub new-inside : {L M n s k : ℕ} {w₀ w : List ℕ} → M ≤ 16 → k ≡ M → length w₀ ≡ 8 + n * (width M) → s < n → FirstNew L M n w₀ s w → Lies w k s
+pub new-inside : {L M n s k : ℕ} {w₀ w : List ℕ} → M ≤ 16 → k ≡ M → length w₀ ≡ 8 + n * (width M) → s < n → FirstNew L M n w₀ s w → RecordIn w k s
 new-inside {L} {M} {n} {s} {k} {w₀} {w} m q e l h = rw q (record { small = m; inside = omega (arith, h .size, mul-le-mul-right (width M) l) })
 
 pub new-more : {L M n s k : ℕ} {f : Front} {w₀ w u : List ℕ} → k ≡ M → FirstNew L M n w₀ s w → bareRecord M f ≡ recordOf (setUp L M (n - L)) s
@@ -115,7 +115,7 @@ pub new-arena : {L M C : ℕ} {w₀ w u : List ℕ} → Room L M C (length w₀)
 new-arena {L} {M} {C} {w₀} {w} {u} r f h =
     let q : L + C - L ≡ C = omega arith in
     let n : length (setUp L M C .lists) ≡ L = length-replicate {0} {A = List Node} L [] in
-    mix-end (setUp L M C) (recordOf (setUp L M C)) u
+    between-end (setUp L M C) (recordOf (setUp L M C)) u
     (record {
       size = h .size ∙ f .size ∙ r .size ∙ (rw n refl);
       new = λ s c l k lo hi. behind M u w (h .rest) s c ∙ f .records s c (omega (arith, n)) k ∙ (rw q refl);

@@ -4,7 +4,7 @@ ghost use Prim.Native.Nat.{_+_, _-_, _*_, _≤_, _<_};
 ghost use lib.ListN.{length};
 ghost use Rattle.model.specs.Arena.{headerWords, width, countColumn, header, setUp, recordOf};
 ghost use Rattle.model.specs.Calls.{SetUpPromise};
-ghost use Rattle.arena.specs.Lies.{Lies};
+ghost use Rattle.arena.specs.RecordIn.{RecordIn};
 ghost use Rattle.arena.specs.Linked.{putRow};
 ghost use Rattle.setup.specs.Bare.{numberOf};
 ghost use Rattle.setup.specs.NewRecords.{frontWords, bareRecord, Written, FirstNew, HeaderSet};
@@ -25,7 +25,7 @@ pub struct Front {
 }
 
 fn write_front(w: &mut [u32], m: usize, s: Slot, f: Front)
-    requires { ⌜ Lies (now w) m (s .0) ⌝ }
+    requires { ⌜ RecordIn (now w) m (s .0) ⌝ }
     ensures { λ _. ⌜ now (w .exit) ≡ putRow m (now (w .entry)) (s .0) countColumn (frontWords f) ⌝ }
 {
     arena::put(w, m, s, arena::COUNT, f.count);
@@ -36,7 +36,7 @@ fn write_front(w: &mut [u32], m: usize, s: Slot, f: Front)
 
 // The record of slot s, with all its links absent.
 fn write_record(w: &mut [u32], m: usize, s: Slot, f: Front)
-    requires { ⌜ Lies (now w) m (s .0) ⌝ }
+    requires { ⌜ RecordIn (now w) m (s .0) ⌝ }
     ensures { λ _. ⌜ Written m (now (w .entry)) (s .0) (bareRecord m f) 0 (width m) (now (w .exit)) ⌝ }
 {
     write_front(w, m, s, f);

@@ -87,15 +87,15 @@ module _ {w₀ : List ℕ} {m a b i : ℕ} (p : Splits w₀ m a b i) {w : List �
       col-2 : {v u : List ℕ} → Done 3 v → u ≡ putAt m (putAt m v e 2 N) b 2 f → Done 2 u
       col-2 h =
           let next = next-column (S .levels) in
-          let f-is = ef ∙ g .mixed .below e 2 (st .known) (omega arith) (omega arith) ∙ st .old 2 0 next in
+          let f-is = ef ∙ g .between .below e 2 (st .known) (omega arith) (omega arith) ∙ st .old 2 0 next in
           col 2 (omega arith) h e N b f (st .known) (b-in p) (st .same 2 0 next) (st .new 2 0 next)
           (new-b 2 ∙ next .head (drop i xs) ∙ (rw (le-leb 0 (S .levels) (omega arith)) (sym f-is)))
 
       col-1 : {u : List ℕ} → Done 2 u → Done 1 u
       col-1 {u} h = record {
         front = h .front;
-        mixed = skip-down m (slots-of S) (recordOf T) (recordOf S) u 1 2 (width m) (omega arith) refl (omega arith)
-            (λ s l. elim (same? s b) [ same x q ↦ rw (q, b-T (like p), b-S (like p)) refl | other x q ↦ same-1 (H p) s l q ]) (h .mixed);
+        between = skip-down m (slots-of S) (recordOf T) (recordOf S) u 1 2 (width m) (omega arith) refl (omega arith)
+            (λ s l. elim (same? s b) [ same x q ↦ rw (q, b-T (like p), b-S (like p)) refl | other x q ↦ same-1 (H p) s l q ]) (h .between);
       }
 
       col-0 : {v u : List ℕ} → Done 2 v → u ≡ putAt m (putAt m v a 0 i) b 0 (n - i) → Done 0 u
@@ -107,4 +107,4 @@ module _ {w₀ : List ℕ} {m a b i : ℕ} (p : Splits w₀ m a b i) {w : List �
           → w₃ ≡ putAt m (putAt m w a 3 ka) b 3 kb → w₂ ≡ putAt m (putAt m w₃ e 2 N) b 2 f → x ≡ putAt m (putAt m w₂ a 0 i) b 0 (n - i) → x ≡ encode T
       split-done ea eb e₃ e₂ e₀ =
           let done = col-0 (col-2 (col-3 ea eb e₃) e₂) e₀ in
-          relink-end (H p) m (p .from .levels) _ (done .mixed) (done .front ∙ ap (take 8) (p .from .passes .words) ∙ (rw (H p .lists) refl))
+          relink-end (H p) m (p .from .levels) _ (done .between) (done .front ∙ ap (take 8) (p .from .passes .words) ∙ (rw (H p .lists) refl))

@@ -21,15 +21,15 @@ use Rattle.model.proofs.Splitting.{slot-take, last-slot-take}
 use Rattle.model.proofs.Tests.{same, other, same?}
 use Rattle.model.proofs.Walk.{last-le, last-zero}
 use Rattle.arena.specs.Linked.{LinkIn, putLink}
-use Rattle.arena.specs.Mixed.{Mix}
-use Rattle.arena.specs.Owners.{Before, Leaves}
-use Rattle.arena.proofs.Cells.{put-front, one-down, skip-down, mix-start}
+use Rattle.arena.specs.Between.{Between}
+use Rattle.arena.specs.Owners.{Before, NodeThere}
+use Rattle.arena.proofs.Cells.{put-front, one-down, skip-down, between-start}
 use Rattle.arena.proofs.Relink.{there, link-there, link-up, link-front}
 use Rattle.truncate.specs.Truncation.{untilFreed, Unlinked}
 use Rattle.truncate.proofs.UntilFreed.{as-new, differs-at}
 use Rattle.truncate.proofs.Shortened.{hangs, stays}
 
-module _ {w₀ : List ℕ} {m a n : ℕ} (p : Leaves w₀ m a n) where
+module _ {w₀ : List ℕ} {m a n : ℕ} (p : NodeThere w₀ m a n) where
   abbrev S : State
   S = decode w₀
 
@@ -68,13 +68,13 @@ module _ {w₀ : List ℕ} {m a n : ℕ} (p : Leaves w₀ m a n) where
   -- the columns from lo to hi are as truncated, but for the nodes that are to be freed
   pub record Ended (lo hi : ℕ) (w : List ℕ) : Type 0 where
     pub front : take 8 w ≡ take 8 w₀
-    pub mixed : Mix m (slots-of S) R (recordOf S) lo hi w
+    pub between : Between m (slots-of S) R (recordOf S) lo hi w
 
   pub none-ended : Ended (toColumn 0) (toColumn 0) w₀
-  none-ended = record { front = refl; mixed = rw (p .listed .levels) (mix-start w₀ (p .listed .passes) R (toColumn 0)) }
+  none-ended = record { front = refl; between = rw (p .listed .levels) (between-start w₀ (p .listed .passes) R (toColumn 0)) }
 
   pub same-size : {lo hi : ℕ} {w : List ℕ} → Ended lo hi w → length w ≡ length w₀
-  same-size g = g .mixed .size ∙ sym (none-ended .mixed .size)
+  same-size g = g .between .size ∙ sym (none-ended .between .size)
 
   -- ---- the links ----
   module _ {slots ranks : List ℕ} (q : Before w₀ m a n slots ranks) {l : ℕ} {w : List ℕ} (g : Ended (toColumn 0) (toColumn l) w) (k : l < m) where
@@ -88,12 +88,12 @@ module _ {w₀ : List ℕ} {m a n : ℕ} (p : Leaves w₀ m a n) where
     its-column j f = link-column (S .levels) l j (omega (arith, p .listed .levels)) f
 
     pub precursor-link : LinkIn w m s l
-    precursor-link = link-there m (slots-of S) small w (g .mixed) s l (st .known) k
+    precursor-link = link-there m (slots-of S) small w (g .between) s l (st .known) k
 
     pub level-ended : {x : List ℕ} → x ≡ putLink m w s l absentLink → Ended (toColumn 0) (toColumn (l + 1)) x
     level-ended ex = rw ex (record {
       front = link-front m w s l absentLink ∙ g .front;
-      mixed = link-up k (omega arith) (g .mixed) s absentLink refl (st .known)
+      between = link-up k (omega arith) (g .between) s absentLink refl (st .known)
           (λ z i ne j f. differs-at S T B (toColumn l + j) s (st .same (toColumn l + j) j (its-column j f)) z i ne)
           (λ j f. stays-new (st .owner) (toColumn l + j) ∙ st .new (toColumn l + j) j (its-column j f));
     })
@@ -102,7 +102,7 @@ module _ {w₀ : List ℕ} {m a n : ℕ} (p : Leaves w₀ m a n) where
   unlinked {l} {w} g x y =
       let e : l ≡ m = le-antisymm x y in
       let h : Ended (toColumn 0) (width m) w = subst (λ (k : ℕ). Ended (toColumn 0) (toColumn k) w) e g in
-      record { front = h .front; mixed = h .mixed }
+      record { front = h .front; between = h .between }
 
   -- ---- the head, and the slot e of rank n ----
   a-in : a < slots-of S
@@ -123,7 +123,7 @@ module _ {w₀ : List ℕ} {m a n : ℕ} (p : Leaves w₀ m a n) where
 
     module _ {w : List ℕ} (g : Unlinked w₀ m a n w) where
       pub both-there : Cell w m a 3 × Cell w m e 2
-      both-there = (there m (slots-of S) small w (g .mixed) a 3 a-in (omega arith), there m (slots-of S) small w (g .mixed) e 2 (end-stage .known) (omega arith))
+      both-there = (there m (slots-of S) small w (g .between) a 3 a-in (omega arith), there m (slots-of S) small w (g .between) e 2 (end-stage .known) (omega arith))
 
       pub ended : {x : List ℕ} → x ≡ putAt m (putAt m (putAt m w a 3 (cond (eqb n 0) N e)) e 2 N) a 0 n → Ended 0 (width m) x
       ended ex =
@@ -131,13 +131,13 @@ module _ {w₀ : List ℕ} {m a n : ℕ} (p : Leaves w₀ m a n) where
           let w₂ = putAt m w₃ e 2 N in
           let next = next-column (S .levels) in
           let mix₃ = one-down m (slots-of S) R (recordOf S) w 3 a (cond (eqb n 0) N e) (omega arith) a-in (differs-at S T B 3 a (same-3 H)) new-last
-          4 (width m) (omega arith) refl (g .mixed) in
+          4 (width m) (omega arith) refl (g .between) in
           let mix₂ = one-down m (slots-of S) R (recordOf S) w₃ 2 e N (omega arith) (end-stage .known) (differs-at S T B 2 e (end-stage .same 2 0 next))
           (stays-new (end-stage .owner) 2 ∙ end-stage .new 2 0 next) 3 (width m) (omega arith) refl mix₃ in
           let mix₁ = skip-down m (slots-of S) R (recordOf S) w₂ 1 2 (width m) (omega arith) refl (omega arith)
           (λ s l. differs-at S T B 1 (slots-of S) (λ z x ne. same-1 H z x) s l (λ f. omega arith)) mix₂ in
           record {
             front = rw (ex, put-front, put-front, put-front) (g .front);
-            mixed = rw ex (one-down m (slots-of S) R (recordOf S) w₂ 0 a n (omega arith) a-in (differs-at S T B 0 a (same-0 H)) (new-head 0 ∙ length-A)
+            between = rw ex (one-down m (slots-of S) R (recordOf S) w₂ 0 a n (omega arith) a-in (differs-at S T B 0 a (same-0 H)) (new-head 0 ∙ length-A)
                 1 (width m) (omega arith) refl mix₁);
           }

@@ -22,9 +22,9 @@ use Rattle.model.proofs.Columns.{link-is}
 use Rattle.model.proofs.Owners.{link-column, next-column}
 use Rattle.model.proofs.Records.{head-words, times-mid}
 use Rattle.model.proofs.Tests.{same, other, same?}
-use Rattle.arena.specs.Mixed.{Mix}
-use Rattle.arena.specs.Owners.{Listed, Leaves}
-use Rattle.arena.proofs.Relink.{there, mix-header, relink-end}
+use Rattle.arena.specs.Between.{Between}
+use Rattle.arena.specs.Owners.{Listed, NodeThere}
+use Rattle.arena.proofs.Relink.{there, between-header, relink-end}
 use Rattle.arena.proofs.Places.{has-header}
 use Rattle.model.proofs.Steps.{first-target}
 use Rattle.truncate.specs.Truncation.{untilFreed}
@@ -43,7 +43,7 @@ first-at [] (suc i) = refl
 first-at (x ∷ xs) zero = refl
 first-at (x ∷ xs) (suc i) = first-at xs i
 
-module _ {w₀ : List ℕ} {m a n : ℕ} (p : Leaves w₀ m a n) where
+module _ {w₀ : List ℕ} {m a n : ℕ} (p : NodeThere w₀ m a n) where
   abbrev S : State
   S = decode w₀
 
@@ -66,17 +66,17 @@ module _ {w₀ : List ℕ} {m a n : ℕ} (p : Leaves w₀ m a n) where
     pub rest : freed (drop i xs) fs ≡ T .free
     pub first : front ≡ firstFree fs
     pub head : take 8 w ≡ take 8 w₀
-    pub mixed : Mix m (slots-of S) (untilFreed S T (drop i xs)) (recordOf S) 0 (width m) w
+    pub between : Between m (slots-of S) (untilFreed S T (drop i xs)) (recordOf S) 0 (width m) w
 
   few : length xs + length (S .free) ≤ 65535
   few = omega (arith, list-few S sound a, p .listed .passes .sizes .room-most)
 
   -- ---- what is read before ----
   old-word : (s c : ℕ) → s < slots-of S → c < 4 → cellAt m w₀ s c ≡ getD (recordOf S s) c 0
-  old-word s c l k = none-ended p .mixed .below s c l (omega arith) k
+  old-word s c l k = none-ended p .between .below s c l (omega arith) k
 
   old-cell : (s c : ℕ) → s < slots-of S → c < 4 → Cell w₀ m s c
-  old-cell s c l k = there m (slots-of S) (small p) w₀ (none-ended p .mixed) s c l (omega arith)
+  old-cell s c l k = there m (slots-of S) (small p) w₀ (none-ended p .between) s c l (omega arith)
 
   pub head-cell : Cell w₀ m a 0
   head-cell = old-cell a 0 (omega (arith, la)) (omega arith)
@@ -109,12 +109,12 @@ module _ {w₀ : List ℕ} {m a n : ℕ} (p : Leaves w₀ m a n) where
     rest = refl;
     first = ef ∙ ap (λ (t : List ℕ). getD t 5 0) (p .listed .passes .words);
     head = g .front;
-    mixed = g .mixed;
+    between = g .between;
   }
 
   module _ {i s front : ℕ} {w : List ℕ} (g : Freeing i s front w) where
     pub size-is : length w ≡ length w₀
-    size-is = g .mixed .size ∙ sym (none-ended p .mixed .size)
+    size-is = g .between .size ∙ sym (none-ended p .between .size)
 
     module _ (l : i < length xs) where
       abbrev y : Node
@@ -131,7 +131,7 @@ module _ {w₀ : List ℕ} {m a n : ℕ} (p : Leaves w₀ m a n) where
 
       word : (c : ℕ) → c < width m → cellAt m w (y .slot) c ≡ getD (nodeWords (S .levels) y ys) c 0
       word c k =
-          g .mixed .new (y .slot) c y-in k (omega arith) k
+          g .between .new (y .slot) c y-in k (omega arith) k
           ∙ at-column c (as-old S T (drop i xs) (y .slot) (rw cons (times-mid [] y ys)) ∙ as-node S sound a n la i l)
 
       low : y .height ≤ m
@@ -139,7 +139,7 @@ module _ {w₀ : List ℕ} {m a n : ℕ} (p : Leaves w₀ m a n) where
 
       pub node-at : HoldsNode w m s
       node-at = rw (g .slot) (record {
-        lies = record { small = small p; inside = omega (arith, g .mixed .size, mul-le-mul-right (width m) y-in) };
+        lies = record { small = small p; inside = omega (arith, g .between .size, mul-le-mul-right (width m) y-in) };
         low = omega (arith, word 1 (omega arith), low);
         zero = word 3 (omega arith);
         absent = λ k x z.
@@ -152,7 +152,7 @@ module _ {w₀ : List ℕ} {m a n : ℕ} (p : Leaves w₀ m a n) where
       })
 
       pub next-cell : Cell w m s 2
-      next-cell = rw (g .slot) (there m (slots-of S) (small p) w (g .mixed) (y .slot) 2 y-in (omega arith))
+      next-cell = rw (g .slot) (there m (slots-of S) (small p) w (g .between) (y .slot) 2 y-in (omega arith))
 
       -- s is freed in words w, which leaves u
       module _ {u : List ℕ} (q : NodeFreed m (y .slot) front w u) where
@@ -165,7 +165,7 @@ module _ {w₀ : List ℕ} {m a n : ℕ} (p : Leaves w₀ m a n) where
         new-word z c x k = elim (same? z (y .slot)) [
           | same e f ↦ rw f (freed-word c k ∙ sym (at-column c (as-new S T ys (y .slot) (once S sound a n la i l))))
           | other e f ↦
-              q .others z c f k ∙ g .mixed .new z c x k (omega arith) k
+              q .others z c f k ∙ g .between .new z c x k (omega arith) k
               ∙ at-column c (ap (λ (t : List Node). untilFreed S T t z) cons ∙ one-less S T y ys z f)
         ]
 
@@ -176,8 +176,8 @@ module _ {w₀ : List ℕ} {m a n : ℕ} (p : Leaves w₀ m a n) where
           rest = (rw cons at (g .rest));
           first = g .slot;
           head = q .front ∙ g .head;
-          mixed = record {
-            size = size ∙ g .mixed .size;
+          between = record {
+            size = size ∙ g .between .size;
             new = λ z c x k b d. new-word z c x k;
             below = λ z c x k b. absurd (omega arith);
             above = λ z c x k b. absurd (omega arith);
@@ -192,10 +192,10 @@ module _ {w₀ : List ℕ} {m a n : ℕ} (p : Leaves w₀ m a n) where
       none : drop i xs ≡ []
       none = drop-of-length-le xs {i = i} done
 
-      all-new : Mix m (slots-of S) (recordOf T) (recordOf S) 0 (width m) w
+      all-new : Between m (slots-of S) (recordOf T) (recordOf S) 0 (width m) w
       all-new = record {
-        size = g .mixed .size;
-        new = λ z c x k b d. g .mixed .new z c x k b d ∙ at-column c (as-new S T (drop i xs) z (rw none refl));
+        size = g .between .size;
+        new = λ z c x k b d. g .between .new z c x k b d ∙ at-column c (as-new S T (drop i xs) z (rw none refl));
         below = λ z c x k b. absurd (omega arith);
         above = λ z c x k b. absurd (omega arith);
       }
@@ -207,7 +207,7 @@ module _ {w₀ : List ℕ} {m a n : ℕ} (p : Leaves w₀ m a n) where
           let front-words = g .head ∙ ap (take 8) (p .listed .passes .words) in
           let e : firstFree (T .free) ≡ front = sym (g .first ∙ ap firstFree (ap (λ (t : List Node). freed t (g .fs)) (sym none) ∙ g .rest)) in
           let f : length (T .free) ≡ k = length-freed (drop n xs) (S .free) ∙ omega (arith, length-drop n xs, count-is ec, p .index, free-is ef) in
-          ex ∙ relink-end (H p) m (p .listed .levels) (set (set w 5 front) 6 k) (mix-header 6 k (omega arith) (mix-header 5 front (omega arith) all-new))
+          ex ∙ relink-end (H p) m (p .listed .levels) (set (set w 5 front) 6 k) (between-header 6 k (omega arith) (between-header 5 front (omega arith) all-new))
           (take-set-lt 8 (set w 5 front) 6 k (omega arith)
           ∙ ap (λ (t : List ℕ). set t 6 k) (take-set-lt 8 w 5 front (omega arith) ∙ ap (λ (t : List ℕ). set t 5 front) front-words)
           ∙ (rw (H p .lists, e, f) refl))

@@ -23,12 +23,12 @@ ghost use Rattle.model.specs.Arena.{countColumn, nextColumn, lastColumn, encode
 ghost use Rattle.model.specs.Calls.{doTruncate};
 ghost use Rattle.model.specs.Cells.{Cell, putAt};
 ghost use Rattle.model.specs.Passes.{decode};
-ghost use Rattle.arena.specs.Owners.{Listed, Leads, Leaves};
+ghost use Rattle.arena.specs.Owners.{Listed, Leads, NodeThere};
 ghost use Rattle.truncate.specs.Truncation.{Unlinked};
 
 // The links of the precursors, level by level.
 fn end_links(w: &mut [u32], m: usize, list: Slot, n: Index, path: Path)
-    requires { ⌜ Leaves (now w) m (list .0) (n .0) × Leads (now w) m (list .0) (n .0) path ⌝ }
+    requires { ⌜ NodeThere (now w) m (list .0) (n .0) × Leads (now w) m (list .0) (n .0) path ⌝ }
     ensures { λ _. ⌜ Unlinked (now (w .entry)) m (list .0) (n .0) (now (w .exit)) ⌝ }
 {
     let slots = path.slots;
@@ -52,7 +52,7 @@ fn end_chain(w: &mut [u32], m: usize, list: Slot, n: Index, end: Slot)
 
 // Keeps the first n nodes, to whose end the path leads. In the loop slot s is the node at index i, and `front` stands first on the free chain.
 fn trim(w: &mut [u32], m: usize, list: Slot, n: Index, path: Path)
-    requires { ⌜ Leaves (now w) m (list .0) (n .0) × Leads (now w) m (list .0) (n .0) path ⌝ }
+    requires { ⌜ NodeThere (now w) m (list .0) (n .0) × Leads (now w) m (list .0) (n .0) path ⌝ }
     ensures { λ _. ⌜ now (w .exit) ≡ encode (doTruncate (decode (now (w .entry))) (list .0) (n .0)) ⌝ }
 {
     let end = path.end;

@@ -10,7 +10,7 @@ use borrow.Author.Tests.{le-leb, lt-leb, lt-ltb}
 use Rattle.model.specs.Nodes.{Node, slotAt, smaller}
 use Rattle.model.specs.Walks.{stand, End, found, missing, ended, isFound, keyWalk, ends, tally, keyIs}
 use Rattle.model.specs.Arena.{State, listOf}
-use Rattle.model.specs.Calls.{search, Answer, answerTo, searched, beyond, refused}
+use Rattle.model.specs.Calls.{search, Answer, answerTo, searched, beyond}
 use Rattle.model.specs.Passes.{decode, nodes}
 use Rattle.model.proofs.Tests.{hit, miss, test}
 use Rattle.model.proofs.Keeps.{sorted-list}

@@ -2,7 +2,7 @@
 ghost use Prim.Native.Nat.{_≤_};
 ghost use lib.ListN.{length};
 ghost use Rattle.model.specs.Arena.{headerWords};
-ghost use Rattle.arena.specs.Lies.{Lies};
+ghost use Rattle.arena.specs.RecordIn.{RecordIn};
 use arena::Link;
 use arena::Slot;
 
@@ -10,7 +10,7 @@ const LEVELS: usize = 2;
 
 // The columns before the links: length or key, height, next, last.
 fn put_row(w: &mut [u32], s: Slot, first: u32, height: u32, next: Slot, last: u32)
-    requires { ⌜ Lies (now w) 2 (s .0) ⌝ }
+    requires { ⌜ RecordIn (now w) 2 (s .0) ⌝ }
 {
     arena::put(w, LEVELS, s, arena::KEY, first);
     arena::put(w, LEVELS, s, arena::HEIGHT, height);
@@ -19,7 +19,7 @@ fn put_row(w: &mut [u32], s: Slot, first: u32, height: u32, next: Slot, last: u3
 }
 
 fn put_links(w: &mut [u32], s: Slot, low: Link, high: Link)
-    requires { ⌜ Lies (now w) 2 (s .0) ⌝ }
+    requires { ⌜ RecordIn (now w) 2 (s .0) ⌝ }
 {
     arena::put_link(w, LEVELS, s, 0, low);
     arena::put_link(w, LEVELS, s, 1, high);
@@ -41,7 +41,7 @@ fn put_head(w: &mut [u32])
 }
 
 fn put_node(w: &mut [u32], s: Slot, key: u32, height: u32, next: Slot, low: Link)
-    requires { ⌜ Lies (now w) 2 (s .0) ⌝ }
+    requires { ⌜ RecordIn (now w) 2 (s .0) ⌝ }
 {
     put_row(w, s, key, height, next, 0);
     put_links(w, s, low, Link::ABSENT);

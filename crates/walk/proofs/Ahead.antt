@@ -1,5 +1,5 @@
 -- What a walk has ahead: where the link of its stage goes, and the key there. Rests on Standing and model's Steps.
-use Prim.Native.Nat.{ℕ, zero, suc, _+_, _≤_, _<_}
+use Prim.Native.Nat.{ℕ, zero, suc, _+_, _<_}
 use mathlib.Core.Path.{_≡_, refl, sym, ap, _∙_}
 use mathlib.Core.Bool.{false}
 use mathlib.Core.List.{List, [], _∷_}
@@ -15,30 +15,11 @@ use Rattle.model.specs.Walks.{keyIs}
 use Rattle.model.specs.Cells.{Cell, cellAt}
 use Rattle.model.specs.Passes.{nodes}
 use Rattle.model.proofs.Tests.{hit, miss, test}
-use Rattle.model.proofs.Steps.{further-zero, further-one, target-at}
+use Rattle.model.proofs.Steps.{target-at, target-none, distance-tall}
 use Rattle.arena.specs.Owners.{Owner}
 use Rattle.arena.proofs.Places.{slot-in}
 use Rattle.walk.specs.Standing.{Standing}
 use Rattle.walk.proofs.Standing.{cell-here, key-here}
-
--- a link goes to a node of its stage, within the list
-distance-tall : (h : ℕ) (ys : List Node) (d : ℕ) → distance h ys ≡ suc d → (d < length ys) × (h ≤ at ys d .height)
-distance-tall h [] d e = absurd (omega (arith, e))
-distance-tall h (y ∷ ys) zero e = elim (test h (y .height)) [
-  | hit f p ↦ (omega arith, p)
-  | miss f p ↦ absurd (omega (arith, further-one (distance h ys) 0 (rw f at e)))
-]
-distance-tall h (y ∷ ys) (suc d) e = elim (test h (y .height)) [
-  | hit f p ↦ absurd (omega (arith, rw f at e))
-  | miss f p ↦ let i = distance-tall h ys d (further-one (distance h ys) (suc d) (rw f at e) .0) in (omega (arith, i .0), i .1)
-]
-
-target-none : (h : ℕ) (ys : List Node) → distance h ys ≡ 0 → target h ys ≡ N
-target-none h [] e = refl
-target-none h (y ∷ ys) e = elim (test h (y .height)) [
-  | hit f p ↦ absurd (omega (arith, rw f at e))
-  | miss f p ↦ rw f (target-none h ys (further-zero (distance h ys) (rw f at e)))
-]
 
 -- what a look at the link of stage h finds: nothing, or the owner that it goes to
 pub data Look (w : List ℕ) (a r h : ℕ) (to : ℕ) : Type 0 where

@@ -6,7 +6,7 @@ use borrow.Author.Needs.{needs}
 use lib.ListN.{take}
 use Rattle.model.specs.Calls.{doRemove}
 use Rattle.model.specs.Passes.{decode}
-use Rattle.arena.specs.Owners.{Before, Leaves}
+use Rattle.arena.specs.Owners.{Before, NodeThere}
 use Rattle.arena.proofs.Relink.{Relinked}
 use Rattle.level_links.specs.AtIndex.{NodeIs}
 use Rattle.level_links.proofs.RemoveLinks.{remove-start, remove-size, remove-end, rank-le, level-fits, remove-turn}
@@ -15,7 +15,7 @@ use Rattle.level_links.proofs.remove_links.Tie as tie
 
 abbrev Inv-loop : tie.InvT-loop
 Inv-loop w₀ m o h slots ranks place l₀ w l =
-    ((a i : ℕ) → place ≡ i → Leaves w₀ m a i → Before w₀ m a i slots ranks → NodeIs w₀ a i (o .0) h
+    ((a i : ℕ) → place ≡ i → NodeThere w₀ m a i → Before w₀ m a i slots ranks → NodeIs w₀ a i (o .0) h
     → Relinked (decode w₀) (doRemove (decode w₀) a i) (take 8 w₀) m l w)
     × (l ≤ m)
 

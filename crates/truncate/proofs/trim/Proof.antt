@@ -6,7 +6,7 @@ use lib.ListN.{length}
 use native.Mathlib.Omega.{arith}
 use borrow.Author.Needs.{needs}
 use Rattle.model.specs.Passes.{nodes}
-use Rattle.arena.specs.Owners.{Leaves}
+use Rattle.arena.specs.Owners.{NodeThere}
 use Rattle.truncate.proofs.Ending.{both-there, ended}
 use Rattle.truncate.proofs.Freeing.{Freeing, head-cell, count-is, end-cell, long, more-than, total-fits}
 use Rattle.truncate.proofs.Freeing.{free-start, size-is, node-at, next-cell, free-turn, freed-all}
@@ -15,7 +15,7 @@ use Rattle.truncate.proofs.trim.Tie as tie
 
 abbrev Inv-loop : tie.InvT-loop
 Inv-loop w₀ m n count s₀ front₀ free i₀ w s front i =
-    (v : List ℕ) (a : ℕ) (p : Leaves v m a (n .0)) → count ≡ length (nodes v a) → Freeing p i₀ (s₀ .0) front₀ w₀ → Freeing p i (s .0) front w
+    (v : List ℕ) (a : ℕ) (p : NodeThere v m a (n .0)) → count ≡ length (nodes v a) → Freeing p i₀ (s₀ .0) front₀ w₀ → Freeing p i (s .0) front w
 
 abbrev μ-loop : tie.MeasureT-loop
 μ-loop w₀ m n count s₀ front₀ free i₀ w s front i = count - i

@@ -117,8 +117,9 @@ loop-again-2 c =
     let z = r .looked .turn .loop-test .taken in
     let k = link-here (inv .midway .stands) (inv .base) z in
     let to = r .looked .to .target-in .ensures ∙ k .target in
+    let met = key-read _ _ _ (r .there .base-of2 .ensures) (r .met .key-in .ensures) in
     let n = no (r .below .below .ensures) (not-true _ (down .if3 .taken)) in
-    record { midway = down-other (inv .midway) _ to (r .present .if1 .left) (r .some-left .if2 .left) _ (key-read _ _ _ (r .there .base-of2 .ensures) (r .met .key-in .ensures)) n z; base = inv .base }
+    record { midway = down-other (inv .midway) _ to (r .present .if1 .left) (r .some-left .if2 .left) _ met n z; base = inv .base }
 
 distance-in-requires : tie.Need-distance-in-requires Inv-loop μ-loop
 distance-in-requires c κs =

@@ -13,13 +13,13 @@ enum-known-x c = search needs
 
 returns : tie.Need-returns
 returns c =
-    let (start, after-raise) : tie.Start × tie.After-raise = search in
-    refused (after-raise .raise .result) (after-raise .raise .ensures) (c .match .keys2) ∙ raised-is _ (start .pre)
+    let (start, told) : tie.Start × tie.After-raise = search in
+    refused (told .raise .result) (told .raise .ensures) (c .match .keys2) ∙ raised-is _ (start .pre)
 
 returns-2 : tie.Need-returns-2
 returns-2 c =
-    let (start, after-raise, after-x) : tie.Start × tie.After-raise × tie.After-x = search in
-    given _ _ (after-raise .raise .ensures) (after-x .x .given .1) ∙ raised-is _ (start .pre)
+    let (start, told, x) : tie.Start × tie.After-raise × tie.After-x = search in
+    given _ _ (told .raise .ensures) (x .x .given .1) ∙ raised-is _ (start .pre)
 
 pub longer-spec : {M : Type 1} → statement M
 longer-spec = tie.close (tie.spec raise-requires enum-known-x returns returns-2)

@@ -16,8 +16,8 @@ returns c = refused (c .before .make .result) (c .before .make .ensures) (c .mat
 
 returns-2 : tie.Need-returns-2
 returns-2 c =
-    let (after-make, after-x) : tie.After-make × tie.After-x = search in
-    given _ _ (after-make .make .ensures) (after-x .x .given .1) ∙ made-is _
+    let (told, x) : tie.After-make × tie.After-x = search in
+    given _ _ (told .make .ensures) (x .x .given .1) ∙ made-is _
 
 pub made-spec : {M : Type 1} → statement M
 made-spec = tie.close (tie.spec make-requires enum-known-x returns returns-2)

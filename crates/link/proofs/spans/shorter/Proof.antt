@@ -16,8 +16,8 @@ returns c = refused (c .before .lower .result) (c .before .lower .ensures) (c .m
 
 returns-2 : tie.Need-returns-2
 returns-2 c =
-    let (after-lower, after-x) : tie.After-lower × tie.After-x = search in
-    given _ _ (after-lower .lower .ensures) (after-x .x .given .1) ∙ lowered-is _
+    let (told, x) : tie.After-lower × tie.After-x = search in
+    given _ _ (told .lower .ensures) (x .x .given .1) ∙ lowered-is _
 
 pub shorter-spec : {M : Type 1} → statement M
 shorter-spec = tie.close (tie.spec lower-requires enum-known-x returns returns-2)

@@ -6,6 +6,6 @@ use Rattle.model.specs.Arena.{width}
 use Rattle.model.specs.Cells.{baseOf}
 
 -- The record of slot s lies in the slice.
-pub record Lies (w : List ℕ) (m s : ℕ) : Type 0 where
+pub record RecordIn (w : List ℕ) (m s : ℕ) : Type 0 where
   pub small : m ≤ 16
   pub inside : baseOf m s + width m ≤ length w

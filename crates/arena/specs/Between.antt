@@ -7,7 +7,7 @@ use Rattle.model.specs.Arena.{headerWords, width}
 use Rattle.model.specs.Cells.{cellAt}
 
 -- Of n records, the columns from lo up to hi are as f says, the others as g says.
-pub record Mix (M n : ℕ) (f g : ℕ → List ℕ) (lo hi : ℕ) (w : List ℕ) : Type 0 where
+pub record Between (M n : ℕ) (f g : ℕ → List ℕ) (lo hi : ℕ) (w : List ℕ) : Type 0 where
   pub size : length w ≡ headerWords + n * width M
   pub new : (s c : ℕ) → s < n → c < width M → lo ≤ c → c < hi → cellAt M w s c ≡ getD (f s) c 0
   pub below : (s c : ℕ) → s < n → c < width M → c < lo → cellAt M w s c ≡ getD (g s) c 0
