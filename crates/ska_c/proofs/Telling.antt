@@ -1,8 +1,9 @@
 -- From the numbers of an answer to the promise of what C gets. Rests on specs/Returned and on numbers' Read.
 use Prim.Native.Nat.{ℕ}
 use mathlib.Core.Path.{_≡_, refl, sym, ap, _∙_, subst}
-use mathlib.Core.Bool.{Bool, true, false, cond}
+use mathlib.Core.Bool.{Bool, true, false, false≢true, cond}
 use mathlib.Core.List.{List}
+use native.Mathlib.Omega.{arith}
 use Rattle.model.specs.Calls.{Call, Answer, Promise, CheckPromise, SetUpPromise}
 use Rattle.answers.specs.Told.{searchTold, keyTold, plainTold}
 use Rattle.answers.specs.declared.SearchAnswer.{SearchAnswer}
@@ -13,7 +14,7 @@ use Rattle.answers.specs.declared.PlainAnswer.{PlainAnswer}
 use Rattle.answers.specs.declared.PlainAnswer.the-variants.{Accepted, Refused as RefusedPlain}
 use Rattle.numbers.specs.Read.{answerOf}
 use Rattle.numbers.specs.declared.Numbers.{Numbers}
-use Rattle.ska_c.specs.Returned.{alone, withKey, withPlace, yes}
+use Rattle.ska_c.specs.Returned.{alone, withKey, withPlace, Verdict}
 
 -- ---- what an answer's other numbers are: 0 ----
 search-told : (a : SearchAnswer) → let r = searchTold a in withPlace (r .number) (r .found) (r .place) (r .tally) ≡ r
@@ -45,12 +46,9 @@ module _ {c : Call} {w u : List ℕ} where
   pub plain-returned : (a : PlainAnswer) {n : ℕ} → n ≡ plainTold a .number → Promise c w u (plainTold a) → Promise c w u (alone n)
   plain-returned a e p = told-alike (ap alone e ∙ plain-told a) p
 
-is-yes : (b : Bool) → yes (cond b 1 0) ≡ b
-is-yes true = refl
-is-yes false = refl
-
-pub check-returned : {w : List ℕ} {b : Bool} {r : ℕ} → r ≡ cond b 1 0 → CheckPromise w b → CheckPromise w (yes r)
-check-returned {w} {b} e p = subst (λ (x : Bool). CheckPromise w x) (sym (ap yes e ∙ is-yes b)) p
+pub check-returned : {w : List ℕ} (b : Bool) {r : ℕ} → r ≡ cond b 1 0 → CheckPromise w b → Verdict w r
+check-returned true e p = record { sound = λ _. p .sound refl; yes = λ _. e; no = λ n. absurd (n (p .sound refl)) }
+check-returned false e p = record { sound = λ f. absurd (omega (arith, e, f)); yes = λ q. absurd (false≢true (p .complete q)); no = λ _. e }
 
 pub set-up-returned : {L M C m n : ℕ} {w u : List ℕ} → m ≡ n → SetUpPromise L M C w u n → SetUpPromise L M C w u m
 set-up-returned {L} {M} {C} {w = w} {u} e p = subst (λ (x : ℕ). SetUpPromise L M C w u x) (sym e) p

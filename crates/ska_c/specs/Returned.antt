@@ -1,7 +1,8 @@
 -- What C gets, as the answer that it tells: the number r that a call returns, and its out-parameters. Rests on model's Calls and link's Distances.
 use Prim.Native.Nat.{ℕ}
-use mathlib.Core.Bool.{Bool}
-use lib.Dec.{eqb}
+use mathlib.Core.Path.{_≡_}
+use mathlib.Core.List.{List}
+use Rattle.model.specs.Passes.{Passes}
 use Rattle.model.specs.Calls.{Answer}
 use Rattle.link.specs.Distances.{Told}
 
@@ -17,6 +18,8 @@ withPlace r found place tally = record { number = r; found = found; place = plac
 abbrev pub withDistance : ℕ → ℕ → Told
 withDistance r distance = record { number = r; distance = distance }
 
--- 1 is yes.
-abbrev pub yes : ℕ → Bool
-yes r = eqb r 1
+-- The check: 1 exactly for yes, 0 exactly for no.
+pub record Verdict (w : List ℕ) (r : ℕ) : Type 0 where
+  pub sound : r ≡ 1 → Passes w
+  pub yes : Passes w → r ≡ 1
+  pub no : ¬ Passes w → r ≡ 0

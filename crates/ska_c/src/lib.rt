@@ -2,8 +2,8 @@
 mod keys;
 mod links;
 
-ghost use Rattle.model.specs.Calls.{insertKey, truncate, clear, splitAt, splitKey, appendList, level, Promise, CheckPromise, SetUpPromise};
-ghost use Rattle.ska_c.specs.Returned.{alone, yes};
+ghost use Rattle.model.specs.Calls.{insertKey, truncate, clear, splitAt, splitKey, appendList, level, Promise, SetUpPromise};
+ghost use Rattle.ska_c.specs.Returned.{alone, Verdict};
 use arena::Index;
 use arena::Slot;
 
@@ -16,7 +16,7 @@ pub extern "C" fn ska_set_up(w: &mut [u32], lists: u32, levels: u32, nodes: u32)
 
 #[no_mangle]
 pub extern "C" fn ska_check(w: &[u32]) -> u32
-    ensures { λ r. ⌜ CheckPromise (now (w .entry)) (yes r) ⌝ }
+    ensures { λ r. ⌜ Verdict (now (w .entry)) r ⌝ }
 {
     numbers::of_check(ska::check(w))
 }

@@ -13,7 +13,7 @@ of-check-requires c κs = search needs
 returns : tie.Need-returns
 returns c =
     let (done, n) : tie.After-check × tie.After-of-check = search in
-    check-returned (n .of-check .ensures) (done .check .ensures)
+    check-returned _ (n .of-check .ensures) (done .check .ensures)
 
 pub ska-check-spec : {M : Type 1} → statement M
 ska-check-spec = tie.close (tie.spec check-requires of-check-requires returns)
