@@ -12,7 +12,7 @@ use answers::PlainAnswer;
 use answers::Refusal;
 use arena::Index;
 use arena::Slot;
-use removal::Removed;
+use key_walk::Searched;
 
 // How many slots are free.
 fn free(w: &[u32]) -> u32
@@ -40,6 +40,7 @@ pub fn insert(w: &mut [u32], list: Slot, key: u32, height: u32) -> PlainAnswer
     PlainAnswer::Accepted
 }
 
+// "A removal by key first asks the search, without an allowance, and goes on only when it is found."
 pub fn remove_key(w: &mut [u32], list: Slot, key: u32) -> KeyAnswer
     requires { ⌜ Passes (now w) ⌝ }
     ensures { λ r. ⌜ Kept (removeKey (list .0) key) (now (w .entry)) (now (w .exit)) (keyTold r) ⌝ }
@@ -48,10 +49,10 @@ pub fn remove_key(w: &mut [u32], list: Slot, key: u32) -> KeyAnswer
         Named::Levels(m) => m,
         Named::Refused(r) => return KeyAnswer::Refused(r),
     };
-    let Removed::Key(k) = removal::remove_key(w, m, list, key) else {
+    let Searched::Found(i, _) = key_walk::search(w, m, list, key, 4294967295) else {
         return KeyAnswer::Refused(Refusal::NoKey);
     };
-    KeyAnswer::Is(k)
+    KeyAnswer::Is(removal::remove_at(w, m, list, i))
 }
 
 pub fn remove_at(w: &mut [u32], list: Slot, i: Index) -> KeyAnswer

@@ -10,10 +10,10 @@ ghost use Rattle.model.specs.Calls.{search, removeKey, answerTo, resultOf, doIn
 ghost use Rattle.model.specs.Passes.{decode, nodes};
 ghost use Rattle.arena.specs.Owners.{Listed, NodeThere, TwoLists};
 ghost use Rattle.split.specs.Splits.{Splits};
+use answers::KeyAnswer;
 use arena::Index;
 use arena::Slot;
 use key_walk::Searched;
-use removal::Removed;
 
 // The index or the place; 0 where the allowance is not enough.
 #[no_mangle]
@@ -50,9 +50,9 @@ pub extern "C" fn core_remove_key(w: &mut [u32], m: usize, list: u32, key: u32) 
     requires { ⌜ Listed (now w) m list ⌝ }
     ensures { λ r. ⌜ (r ≡ answerTo (decode (now (w .entry))) (removeKey list key) .key) × (now (w .exit) ≡ encode (resultOf (decode (now (w .entry))) (removeKey list key))) ⌝ }
 {
-    match removal::remove_key(w, m, Slot(list), key) {
-        Removed::Key(k) => k,
-        Removed::Missing => 0,
+    match checked_changing::remove_key(w, Slot(list), key) {
+        KeyAnswer::Is(k) => k,
+        KeyAnswer::Refused(_) => 0,
     }
 }
 

@@ -1,2 +1,1 @@
 pub mod RemoveAfter
-pub mod RemoveByKey

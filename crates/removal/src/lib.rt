@@ -19,7 +19,6 @@ use chain_words::Head;
 use chain_words::Record;
 use chain_words::put_chain;
 use chain_words::put_free;
-use key_walk::Searched;
 use level_links::remove_links;
 ghost use mathlib.Core.Path.{_≡_};
 ghost use mathlib.Core.Bool.{cond};
@@ -29,8 +28,7 @@ ghost use Rattle.model.specs.Nodes.{N, keyAt};
 ghost use Rattle.model.specs.Arena.{encode};
 ghost use Rattle.model.specs.Calls.{doRemove};
 ghost use Rattle.model.specs.Passes.{decode, nodes};
-ghost use Rattle.arena.specs.Owners.{Listed, Leads, NodeThere};
-ghost use Rattle.removal.specs.RemovalAnswer.{RemovedKey};
+ghost use Rattle.arena.specs.Owners.{Leads, NodeThere};
 
 // The last node's slot, once the node at index i of n is gone; slot `end` stands before it.
 fn last_without(i: Index, n: u32, end: Slot, last: u32) -> u32
@@ -82,21 +80,4 @@ pub fn remove_at(w: &mut [u32], m: usize, list: Slot, i: Index) -> Key
 {
     let path = rank_walk::seek(w, m, list, i);
     remove_after(w, m, list, i, path)
-}
-
-// The key, or refusal 9.
-pub enum Removed {
-    Key(u32),
-    Missing,
-}
-
-// "A removal by key first asks the search, without an allowance, and goes on only when it is found."
-pub fn remove_key(w: &mut [u32], m: usize, list: Slot, key: Key) -> Removed
-    requires { ⌜ Listed (now w) m (list .0) ⌝ }
-    ensures { λ r. ⌜ RemovedKey (list .0) key (now (w .entry)) (now (w .exit)) r ⌝ }
-{
-    let Searched::Found(i, _) = key_walk::search(w, m, list, key, 4294967295) else {
-        return Removed::Missing;
-    };
-    Removed::Key(remove_at(w, m, list, i))
 }

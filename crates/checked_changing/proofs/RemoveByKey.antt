@@ -12,7 +12,7 @@ use denote.Enum.Declared.{tagOf}
 use Rattle.model.specs.Nodes.{Node, keyAt, smaller, Sorted}
 use Rattle.model.specs.Walks.{End, ended, isFound, keyWalk}
 use Rattle.model.specs.Arena.{State, encode}
-use Rattle.model.specs.Calls.{Answer, accepted, answerTo, search, doRemove, searched, keyed}
+use Rattle.model.specs.Calls.{Answer, accepted, answerTo, search, removeKey, doRemove, searched, keyed, refused}
 use Rattle.model.specs.Passes.{decode, nodes}
 use Rattle.model.proofs.Allowed.{not-refused}
 use Rattle.model.proofs.ByKey.{key-place, key-found}
@@ -27,8 +27,7 @@ use Rattle.key_walk.specs.SearchAnswer.{answerOf}
 use Rattle.key_walk.specs.declared.Searched.{Searched}
 use Rattle.key_walk.specs.declared.Searched.the-variants.{Found, Missing, Beyond}
 use Rattle.key_walk.proofs.Searched.{the-type}
-use Rattle.removal.specs.RemovalAnswer.{RemovedKey}
-use Rattle.removal.specs.declared.Removed.the-variants as removed
+use Rattle.answers.specs.Kept.{Kept}
 
 module _ {w : List ℕ} {m a : ℕ} (p : Listed w m a) (k : ℕ) where
   abbrev S : State
@@ -75,12 +74,12 @@ module _ {w : List ℕ} {m a : ℕ} (p : Listed w m a) (k : ℕ) where
         by (Missing i n) q t = unmet (isFound walked) (ap (λ (x : Answer). x .found) q) refl
         by (Beyond n) q t = absurd (omega (arith, ap (λ (x : Answer). x .number) q))
 
-    pub missing-words : OneOf (1 ∷ 2 ∷ []) (tagOf the-type r) → RemovedKey a k w w removed.Missing
+    pub missing-words : OneOf (1 ∷ 2 ∷ []) (tagOf the-type r) → Kept (removeKey a k) w w (refused 9)
     missing-words h =
         let f = not-found h in
         record {
-          told = rw (lt-ltb a (length (S .lists)) (p .list), f) refl;
-          words = p .passes .words ∙ (rw (lt-ltb a (length (S .lists)) (p .list), f) refl);
+          answered = rw (lt-ltb a (length (S .lists)) (p .list), f) refl;
+          left = p .passes .words ∙ (rw (lt-ltb a (length (S .lists)) (p .list), f) refl);
         }
 
     module _ {i : Index} {n : ℕ} (q : r ≡ Found i n) where
@@ -99,8 +98,8 @@ module _ {w : List ℕ} {m a : ℕ} (p : Listed w m a) (k : ℕ) where
       pub goes-out : NodeThere w m a (i .0)
       goes-out = rw place-is (record { listed = p; index = found-within S (p .passes .sound) a k (p .list, found) })
 
-      pub removed-words : {x : ℕ} {u : List ℕ} → u ≡ encode (doRemove S a (i .0)) → x ≡ keyAt xs (i .0) → RemovedKey a k w u (removed.Key x)
+      pub removed-words : {x : ℕ} {u : List ℕ} → u ≡ encode (doRemove S a (i .0)) → x ≡ keyAt xs (i .0) → Kept (removeKey a k) w u (keyed x)
       removed-words eu ex = record {
-        told = rw (lt-ltb a (length (S .lists)) (p .list), found) (ap keyed (ex ∙ key-is));
-        words = rw (lt-ltb a (length (S .lists)) (p .list), found) (eu ∙ ap (λ (j : ℕ). encode (doRemove S a j)) place-is);
+        answered = rw (lt-ltb a (length (S .lists)) (p .list), found) (ap keyed (ex ∙ key-is));
+        left = rw (lt-ltb a (length (S .lists)) (p .list), found) (eu ∙ ap (λ (j : ℕ). encode (doRemove S a j)) place-is);
       }

@@ -1,2 +1,0 @@
--- What a removal by key answers and leaves.
-pub mod RemovalAnswer
