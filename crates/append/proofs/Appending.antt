@@ -7,10 +7,11 @@ use lib.ListN.{length, set}
 use lib.Seq.{set-getD}
 use native.Mathlib.Omega.{arith}
 use borrow.Author.Tests.{le-leb, lt-leb}
+use Rattle.model.specs.Closed.{doJoin}
 use Rattle.model.specs.Nodes.{Node, keyAt, Sorted}
 use Rattle.model.specs.Lists.{lastKey, mergeIn, append}
 use Rattle.model.specs.Arena.{State, putList, encode}
-use Rattle.model.specs.Calls.{doJoin, doAppend}
+use Rattle.model.specs.Calls.{doAppend}
 use Rattle.model.specs.Passes.{decode, nodes}
 use Rattle.arena.specs.Decides.{Decides}
 use Rattle.arena.specs.Owners.{TwoLists}

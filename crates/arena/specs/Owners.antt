@@ -5,7 +5,7 @@ use mathlib.Core.Logic.{_≢_}
 use mathlib.Core.List.{List}
 use lib.ListN.{length, take, getD}
 use Rattle.model.specs.Nodes.{slotAt, heightAt}
-use Rattle.model.specs.Walks.{last}
+use Rattle.model.specs.Closed.{last}
 use Rattle.model.specs.Passes.{decode, nodes, Passes}
 use Rattle.arena.specs.declared.Path.{Path}
 

@@ -7,7 +7,7 @@ use lib.Seq.{length-take-le}
 use native.Mathlib.Omega.{arith}
 use borrow.Author.Tests.{le-leb}
 use Rattle.model.specs.Arena.{width, State, headWords, recordOf, encode, slots-of}
-use Rattle.model.specs.Calls.{doJoin}
+use Rattle.model.specs.Closed.{doJoin}
 use Rattle.model.specs.Cells.{Cell, cellAt, putAt}
 use Rattle.model.specs.Links.{target}
 use Rattle.model.specs.Nodes.{Node, N, slotAt}

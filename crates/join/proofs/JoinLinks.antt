@@ -10,12 +10,11 @@ use borrow.Author.Tests.{le-leb}
 use Rattle.arena.specs.Linked.{putLink}
 use Rattle.arena.specs.Owners.{Before, Listed}
 use Rattle.model.specs.Arena.{toColumn, farColumn, State, listOf, recordOf, slots-of}
-use Rattle.model.specs.Calls.{doJoin}
+use Rattle.model.specs.Closed.{doJoin, last}
 use Rattle.model.specs.Cells.{Cell, cellAt, linkAt}
 use Rattle.model.specs.Links.{distance, linkOf, absentLink}
 use Rattle.model.specs.Nodes.{Node, slotAt, Low}
 use Rattle.model.specs.Passes.{decode, nodes}
-use Rattle.model.specs.Walks.{last}
 use Rattle.join.specs.Joins.{Joins, LevelJoins}
 use Rattle.arena.proofs.Relink.{LinkOf, Relinked, relink-start, there, link-there, relinked}
 use Rattle.level_links.specs.OneLevel.{fartherLink}

@@ -13,7 +13,7 @@ use level_links::farther_link;
 ghost use mathlib.Core.Path.{_≡_};
 ghost use lib.ListN.{length};
 ghost use Rattle.model.specs.Arena.{encode};
-ghost use Rattle.model.specs.Calls.{doJoin};
+ghost use Rattle.model.specs.Closed.{doJoin};
 ghost use Rattle.model.specs.Cells.{linkAt};
 ghost use Rattle.model.specs.Links.{absentLink};
 ghost use Rattle.model.specs.Passes.{decode, nodes};

@@ -7,8 +7,9 @@ use mathlib.Core.List.{List, [], _++_}
 use lib.ListN.{length, getD, set, length-set}
 use lib.Seq.{set-comm, getD-set-same, getD-set-other, lt-length-set}
 use native.Mathlib.Omega.{arith}
+use Rattle.model.specs.Closed.{doJoin}
 use Rattle.model.specs.Arena.{State, headWords, listOf, recordOf, slots-of}
-use Rattle.model.specs.Calls.{doSplit, doJoin}
+use Rattle.model.specs.Calls.{doSplit}
 use Rattle.model.specs.Links.{absentLink}
 use Rattle.model.specs.Nodes.{Node}
 use Rattle.model.specs.Passes.{decode, nodes}

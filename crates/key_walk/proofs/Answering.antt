@@ -11,7 +11,7 @@ use native.Mathlib.Omega.{arith}
 use borrow.Author.Tests.{le-leb, lt-leb, lt-ltb, eq-eqb, ne-eqb}
 use Rattle.model.specs.Nodes.{Node, N, keyAt}
 use Rattle.model.specs.Links.{distance, target}
-use Rattle.model.specs.Walks.{go, asks, ends, tally, keyIs}
+use Rattle.model.specs.Closed.{go, asks, ends, tally, keyIs}
 use Rattle.model.specs.Arena.{keyColumn, State, listOf}
 use Rattle.model.specs.Calls.{Answer, search, answerTo, searched, beyond}
 use Rattle.model.specs.Cells.{cellAt}

@@ -3,7 +3,7 @@ use Prim.Native.Nat.{ℕ, _+_, _≤_, _<_}
 use mathlib.Core.Path.{_≡_}
 use mathlib.Core.List.{List}
 use lib.ListN.{length, drop}
-use Rattle.model.specs.Walks.{ends, tally}
+use Rattle.model.specs.Closed.{ends, tally}
 use Rattle.model.specs.Cells.{baseOf}
 use Rattle.model.specs.Passes.{nodes}
 use Rattle.walk.specs.Standing.{Standing}

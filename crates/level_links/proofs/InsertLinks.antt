@@ -9,7 +9,7 @@ use native.Mathlib.Nat.{not-suc-le-zero}
 use native.Mathlib.Omega.{arith}
 use Rattle.model.specs.Nodes.{Node, node, slotAt}
 use Rattle.model.specs.Links.{distance, linkOf, absentLink}
-use Rattle.model.specs.Walks.{last}
+use Rattle.model.specs.Closed.{last}
 use Rattle.model.specs.Arena.{farColumn, State, firstFree, freeWords, recordOf, slots-of}
 use Rattle.model.specs.Cells.{cellAt, linkAt}
 use Rattle.model.specs.Passes.{decode, nodes}

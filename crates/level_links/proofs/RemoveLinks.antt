@@ -9,7 +9,7 @@ use native.Mathlib.Omega.{arith}
 use Rattle.model.specs.Nodes.{Node, node, N, slotAt, at}
 use Rattle.model.specs.Links.{distance, linkWords, linkOf, absentLink}
 use Rattle.model.specs.Lists.{removeAt}
-use Rattle.model.specs.Walks.{last}
+use Rattle.model.specs.Closed.{last}
 use Rattle.model.specs.Arena.{toColumn, farColumn, State, recordOf, slots-of}
 use Rattle.model.specs.Calls.{doRemove}
 use Rattle.model.specs.Cells.{cellAt, linkAt}

@@ -6,7 +6,7 @@ use lib.ListN.{length, take, getD, length-set}
 use lib.Seq.{getD-set-same, length-take-le}
 use native.Mathlib.Omega.{arith}
 use Rattle.model.specs.Nodes.{Node, slotAt}
-use Rattle.model.specs.Walks.{last}
+use Rattle.model.specs.Closed.{last}
 use Rattle.model.specs.Arena.{State, listOf, putList, encode}
 use Rattle.model.specs.Passes.{decode, nodes, Ranges, Sound}
 use Rattle.model.proofs.Builds.{passes-encode}

@@ -9,7 +9,7 @@ use native.Mathlib.Omega.{arith}
 use borrow.Author.Tests.{lt-leb}
 use Rattle.model.specs.Nodes.{Node, node, N, at, slotAt, Above, Sorted}
 use Rattle.model.specs.Lists.{insertAt, removeAt}
-use Rattle.model.specs.Walks.{last}
+use Rattle.model.specs.Closed.{last}
 use Rattle.model.specs.Arena.{State, firstFree, listOf, putList, encode}
 use Rattle.model.specs.Calls.{doRemove}
 use Rattle.model.specs.Passes.{decode, nodes, Sound}

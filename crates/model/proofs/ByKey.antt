@@ -5,9 +5,10 @@ use mathlib.Core.Path.{_≡_, refl, sym, ap, _∙_}
 use mathlib.Core.Bool.{Bool, true, false}
 use mathlib.Core.List.{List}
 use lib.ListN.{length, drop}
+use Rattle.model.specs.Closed.{keyIs}
 use Rattle.model.specs.Claims.{LastBelow, FoundFirst, precursorRank}
 use Rattle.model.specs.Nodes.{Node, at, smaller, smallerKeys, Sorted}
-use Rattle.model.specs.Walks.{isFound, placeOf, keyWalk, keyIs}
+use Rattle.model.specs.Walks.{isFound, placeOf, keyWalk}
 use Rattle.model.proofs.Precursor.{precursor-is, found-is, missing-is}
 use Rattle.model.proofs.Searching.{walk-found, walk-place, precursor-stop, smaller-all}
 use Rattle.model.proofs.Walk.{place-is}

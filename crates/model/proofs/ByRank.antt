@@ -11,10 +11,11 @@ use lib.Seq.{drop-drop, take-nil}
 use native.Mathlib.Nat.{zero-add, add-zero, suc-sub-suc}
 use native.Mathlib.Omega.{arith}
 use borrow.Author.Tests.{le-leb, lt-leb}
+use Rattle.model.specs.Closed.{last}
 use Rattle.model.specs.Claims.{rankPrecursor}
 use Rattle.model.specs.Links.{distance}
 use Rattle.model.specs.Nodes.{Node}
-use Rattle.model.specs.Walks.{alongRanks, descendRanks, rankPrecursors, nextRanks, rankWalk, last}
+use Rattle.model.specs.Walks.{alongRanks, descendRanks, rankPrecursors, nextRanks, rankWalk}
 use Rattle.model.proofs.Precursor.{last-last}
 use Rattle.model.proofs.Steps.{further-zero, further-one, further-add}
 use Rattle.model.proofs.Tests.{same, other, same?, hit, miss, test}

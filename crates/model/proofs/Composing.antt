@@ -6,8 +6,9 @@ use mathlib.Core.List.{List, [], _∷_, _++_}
 use lib.ListN.{length, take, drop, getD, set}
 use lib.Seq.{getD-set-same, getD-set-other, set-set, set-comm, take-at, drop-at, length-take-le}
 use native.Mathlib.Omega.{arith}
+use Rattle.model.specs.Closed.{doJoin}
 use Rattle.model.specs.Arena.{State, listOf}
-use Rattle.model.specs.Calls.{doInsert, doRemove, doSplit, doJoin}
+use Rattle.model.specs.Calls.{doInsert, doRemove, doSplit}
 use Rattle.model.specs.Lists.{insert, insertAt, removeAt}
 use Rattle.model.specs.Nodes.{Node}
 use Rattle.model.proofs.Splitting.{withLists}

@@ -10,7 +10,7 @@ use borrow.Author.Tests.{le-leb}
 use Rattle.model.specs.Gaps.{gapAt, gap}
 use Rattle.model.specs.Links.{further}
 use Rattle.model.specs.Nodes.{Node, smaller, Below, Above, Sorted, Low}
-use Rattle.model.specs.Walks.{tally, last}
+use Rattle.model.specs.Closed.{tally, last}
 use Rattle.model.proofs.Ordering.{low-cut}
 use Rattle.model.proofs.Tests.{hit, miss, test}
 use Rattle.model.proofs.Walk.{last-le, tall, any-le, go-split, asks-split, below-drop, below-smaller, above-smaller}

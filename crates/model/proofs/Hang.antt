@@ -14,7 +14,7 @@ use Rattle.model.specs.Arena.{State, nodeWords, headWords, lastSlot, lis
 use Rattle.model.specs.Links.{distance, absentLink}
 use Rattle.model.specs.Nodes.{Node, node, N, slotAt, at}
 use Rattle.model.specs.Passes.{Sound}
-use Rattle.model.specs.Walks.{last}
+use Rattle.model.specs.Closed.{last}
 use Rattle.model.proofs.Owners.{field, Column, linkFrom, last-mid, last-distance, distance-last, near, beyond}
 use Rattle.model.proofs.Precursor.{last-node}
 use Rattle.model.proofs.Records.{head-words, node-words, slot-of}

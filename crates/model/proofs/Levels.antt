@@ -13,7 +13,7 @@ use borrow.Author.Tests.{eq-eqb, ne-eqb, le-leb}
 use Rattle.model.specs.Gaps.{Levelled, gapAt, gap}
 use Rattle.model.specs.Lists.{twos, levelFrom}
 use Rattle.model.specs.Nodes.{Node, Sorted, Low}
-use Rattle.model.specs.Walks.{tally}
+use Rattle.model.specs.Closed.{tally}
 use Rattle.model.proofs.Gap.{tally-gap}
 use Rattle.model.proofs.Tests.{hit, miss, test}
 

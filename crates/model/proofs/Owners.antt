@@ -14,7 +14,7 @@ use Rattle.model.specs.Arena.{nextColumn, toColumn, State, nodeLinks, no
 use Rattle.model.specs.Links.{target, distance, linkWords, linkOf, absentLink}
 use Rattle.model.specs.Nodes.{Node}
 use Rattle.model.specs.Passes.{timesAll, Sound}
-use Rattle.model.specs.Walks.{last}
+use Rattle.model.specs.Closed.{last}
 use Rattle.model.proofs.Builds.{in-list, in-lists, in-free}
 use Rattle.model.proofs.Links.{past, distance-append, target-append}
 use Rattle.model.proofs.Steps.{further-zero}

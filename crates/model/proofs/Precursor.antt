@@ -12,7 +12,7 @@ use borrow.Author.Tests.{le-leb, eqb-true, eqb-false}
 use Rattle.model.specs.Claims.{LastBelow, FoundFirst}
 use Rattle.model.specs.Links.{further}
 use Rattle.model.specs.Nodes.{at, Node, node, N, smaller, Below, Above, Sorted}
-use Rattle.model.specs.Walks.{stops, keyIs, last}
+use Rattle.model.specs.Closed.{stops, keyIs, last}
 use Rattle.model.proofs.Steps.{further-add}
 use Rattle.model.proofs.Tests.{hit, miss, test}
 use Rattle.model.proofs.Walk.{last-le, go-split, below-drop, below-smaller, above-smaller, smaller-le}

@@ -10,9 +10,10 @@ use lib.Seq.{drop-drop, getD-drop}
 use native.Mathlib.Nat.{zero-add, suc-sub-suc}
 use native.Mathlib.Omega.{arith}
 use borrow.Author.Tests.{le-leb, le-ltb}
+use Rattle.model.specs.Closed.{go, asks, ends, tally, stops, keyIs}
 use Rattle.model.specs.Links.{distance}
 use Rattle.model.specs.Nodes.{Node, node, N, keyAt, at, smaller, smallerKeys, Above, Sorted}
-use Rattle.model.specs.Walks.{Stand, stand, along, descend, precursors, End, found, missing, ended, isFound, placeOf, byNext, keyWalk, go, asks, ends, tally, stops, keyIs}
+use Rattle.model.specs.Walks.{Stand, stand, along, descend, precursors, End, found, missing, ended, isFound, placeOf, byNext, keyWalk}
 use Rattle.model.proofs.Steps.{absent-step, smaller-step, other-step}
 use Rattle.model.proofs.Tests.{hit, miss, test}
 use Rattle.model.proofs.Walk.{above-trans}

@@ -9,7 +9,7 @@ use borrow.Author.Tests.{le-leb, lt-ltb, le-ltb}
 use Rattle.model.specs.Arena.{firstSlot}
 use Rattle.model.specs.Links.{further, distance, target}
 use Rattle.model.specs.Nodes.{Node, N, at}
-use Rattle.model.specs.Walks.{go, asks}
+use Rattle.model.specs.Closed.{go, asks}
 use Rattle.model.proofs.Tests.{hit, miss, test}
 
 pub further-zero : (d : ℕ) → further d ≡ 0 → d ≡ 0

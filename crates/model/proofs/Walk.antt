@@ -12,7 +12,7 @@ use native.Mathlib.Omega.{arith}
 use borrow.Author.Tests.{le-leb, lt-ltb, le-ltb}
 use Rattle.model.specs.Links.{further}
 use Rattle.model.specs.Nodes.{Node, smaller, Below, Above, Sorted}
-use Rattle.model.specs.Walks.{last, go, asks, ends, tally}
+use Rattle.model.specs.Closed.{last, go, asks, ends, tally}
 use Rattle.model.proofs.Tests.{hit, miss, test}
 
 -- how many are of height h or more; whether any

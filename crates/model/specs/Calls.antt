@@ -4,7 +4,7 @@ use Prim.Native.Nat.{ℕ, suc, _+_, _*_}
 use mathlib.Core.Path.{_≡_}
 use mathlib.Core.Logic.{_≢_}
 use mathlib.Core.Bool.{Bool, true, cond}
-use mathlib.Core.List.{List, [], _∷_, _++_}
+use mathlib.Core.List.{List, [], _∷_}
 use lib.Dec.{leb, ltb, eqb}
 use lib.ListN.{length, take, drop}
 use Rattle.model.specs.Nodes.{node, keyAt, slotAt, smaller}
@@ -35,10 +35,6 @@ doTruncate S a n = putList S a (take n (listOf S a)) (freed (drop n (listOf S a)
 -- "Split at i moves everything from index i into the empty receiving list."
 abbrev pub doSplit : State → ℕ → ℕ → ℕ → State
 doSplit S a b i = let xs = listOf S a in putList (putList S a (take i xs) (S .free)) b (drop i xs) (S .free)
-
--- Append's first case, "b follows a" (no call by itself): list b is hung behind list a. "b ends empty."
-abbrev pub doJoin : State → ℕ → ℕ → State
-doJoin S a b = putList (putList S a (listOf S a ++ listOf S b) (S .free)) b [] (S .free)
 
 abbrev pub doAppend : State → ℕ → ℕ → State
 doAppend S a b = putList (putList S a (append (listOf S a) (listOf S b)) (S .free)) b [] (S .free)

@@ -1,7 +1,8 @@
--- The definitions of document 01, in its order. A reader has to believe these files and no others.
+-- The definitions of document 01, in its order. A reader has to believe these files, but for Closed, and no others of this crate.
 pub mod Nodes
 pub mod Links
 pub mod Walks
+pub mod Closed
 pub mod Lists
 pub mod Arena
 pub mod Cells

@@ -9,10 +9,11 @@ use lib.ListN.{take, drop}
 use lib.Seq.{getD-drop, length-take-le}
 use native.Mathlib.Omega.{arith}
 use borrow.Author.Tests.{eq-eqb, ne-eqb}
+use Rattle.model.specs.Closed.{keyIs}
 use Rattle.model.specs.Nodes.{Node, node, N, keyAt, slotAt, smaller, Sorted}
 use Rattle.model.specs.Links.{distance, target}
 use Rattle.model.specs.Arena.{keyColumn}
-use Rattle.model.specs.Walks.{isFound, keyWalk, keyIs}
+use Rattle.model.specs.Walks.{isFound, keyWalk}
 use Rattle.model.specs.Cells.{cellAt}
 use Rattle.model.specs.Passes.{decode, nodes, Passes}
 use Rattle.model.proofs.Tests.{hit, miss, test}

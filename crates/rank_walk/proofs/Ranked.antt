@@ -6,8 +6,9 @@ use mathlib.Core.List.{List}
 use lib.ListN.{length, take, replicate, getD-replicate}
 use lib.Seq.{take-all, take-length}
 use native.Mathlib.Omega.{arith}
+use Rattle.model.specs.Closed.{last}
 use Rattle.model.specs.Nodes.{slotAt}
-use Rattle.model.specs.Walks.{rankWalk, last}
+use Rattle.model.specs.Walks.{rankWalk}
 use Rattle.model.specs.Arena.{nextColumn}
 use Rattle.model.specs.Cells.{cellAt}
 use Rattle.model.specs.Passes.{nodes}

@@ -15,7 +15,7 @@ use Rattle.model.specs.Cells.{linkAt}
 use Rattle.model.specs.Links.{linkOf, absentLink}
 use Rattle.model.specs.Nodes.{Node, slotAt}
 use Rattle.model.specs.Passes.{decode, nodes}
-use Rattle.model.specs.Walks.{last}
+use Rattle.model.specs.Closed.{last}
 use Rattle.split.specs.Splits.{Splits}
 use Rattle.arena.proofs.Relink.{LinkOf, Relinked, relink-start, link-s, link-o, old-link, relinked}
 use Rattle.level_links.proofs.LinkChanges.{nearer-from}

@@ -14,7 +14,7 @@ use Rattle.model.specs.Cells.{Cell, putAt}
 use Rattle.model.specs.Links.{linkWords, absentLink}
 use Rattle.model.specs.Nodes.{Node, N, slotAt}
 use Rattle.model.specs.Passes.{decode, nodes, times}
-use Rattle.model.specs.Walks.{last}
+use Rattle.model.specs.Closed.{last}
 use Rattle.model.proofs.Hang.{InA, its-head, Hangs, Stage, stage-is, same-0, same-1, same-3, head-T}
 use Rattle.model.proofs.Owners.{field, Column, link-column, next-column}
 use Rattle.model.proofs.Splitting.{slot-take, last-slot-take}

@@ -7,8 +7,9 @@ use lib.Dec.{leb}
 use lib.ListN.{length, drop}
 use native.Mathlib.Omega.{arith}
 use borrow.Author.Tests.{le-leb, lt-leb, lt-ltb}
+use Rattle.model.specs.Closed.{ends, tally, keyIs}
 use Rattle.model.specs.Nodes.{Node, slotAt, smaller}
-use Rattle.model.specs.Walks.{stand, End, found, missing, ended, isFound, keyWalk, ends, tally, keyIs}
+use Rattle.model.specs.Walks.{stand, End, found, missing, ended, isFound, keyWalk}
 use Rattle.model.specs.Arena.{State, listOf}
 use Rattle.model.specs.Calls.{search, Answer, answerTo, searched, beyond}
 use Rattle.model.specs.Passes.{decode, nodes}

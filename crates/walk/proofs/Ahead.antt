@@ -11,7 +11,7 @@ use borrow.Author.Tests.{le-leb}
 use Rattle.model.specs.Nodes.{Node, node, N, at, keyAt}
 use Rattle.model.specs.Links.{distance, target}
 use Rattle.model.specs.Arena.{keyColumn}
-use Rattle.model.specs.Walks.{keyIs}
+use Rattle.model.specs.Closed.{keyIs}
 use Rattle.model.specs.Cells.{Cell, cellAt}
 use Rattle.model.specs.Passes.{nodes}
 use Rattle.model.proofs.Tests.{hit, miss, test}

@@ -7,7 +7,7 @@ use lib.Seq.{getD-drop, getD-take, length-take-le, getD-set-same, getD-set-other
 use native.Mathlib.Omega.{arith}
 use Rattle.model.specs.Nodes.{Node, node, N, at, slotAt}
 use Rattle.model.specs.Links.{further, distance}
-use Rattle.model.specs.Walks.{last}
+use Rattle.model.specs.Closed.{last}
 use Rattle.model.specs.Passes.{nodes}
 use Rattle.model.proofs.Tests.{hit, miss, test}
 use Rattle.model.proofs.Walk.{last-le}

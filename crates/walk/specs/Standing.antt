@@ -3,7 +3,7 @@ use Prim.Native.Nat.{ℕ, _≤_}
 use mathlib.Core.Path.{_≡_}
 use mathlib.Core.List.{List}
 use lib.ListN.{length, take}
-use Rattle.model.specs.Walks.{last}
+use Rattle.model.specs.Closed.{last}
 use Rattle.model.specs.Passes.{decode, nodes}
 use Rattle.arena.specs.Owners.{Owner}
 
