@@ -29,20 +29,20 @@ link-there m n sm w g s l i k = record { small = sm; level = k; inside = in-word
 
 -- ---- one level ----
 -- f and g agree on the link of level l of slot s; that of f is k
-abbrev pub Alike : (ℕ → List ℕ) → (ℕ → List ℕ) → ℕ → ℕ → Type 0
-Alike f g l s = (j : ℕ) → j < linkWords → getD (f s) (toColumn l + j) 0 ≡ getD (g s) (toColumn l + j) 0
+abbrev pub SameLink : (ℕ → List ℕ) → (ℕ → List ℕ) → ℕ → ℕ → Type 0
+SameLink f g l s = (j : ℕ) → j < linkWords → getD (f s) (toColumn l + j) 0 ≡ getD (g s) (toColumn l + j) 0
 
 abbrev pub LinkOf : (ℕ → List ℕ) → ℕ → ℕ → List ℕ → Type 0
 LinkOf f l s k = (j : ℕ) → j < linkWords → getD (f s) (toColumn l + j) 0 ≡ getD k j 0
 
 -- the links of level l, of which those of f and g differ at x alone, or at x and y
 module _ {M n : ℕ} {f g : ℕ → List ℕ} {w : List ℕ} {l lo : ℕ} (lm : l < M) (b : lo ≤ toColumn l) (m : Between M n f g lo (toColumn l) w) where
-  kept : {P : ℕ → Type 0} → ((s : ℕ) → s < n → P s → Alike f g l s) → (s d : ℕ) → s < n → P s → toColumn l ≤ d → d < toColumn (l + 1) → cellAt M w s d ≡ getD (f s) d 0
+  kept : {P : ℕ → Type 0} → ((s : ℕ) → s < n → P s → SameLink f g l s) → (s d : ℕ) → s < n → P s → toColumn l ≤ d → d < toColumn (l + 1) → cellAt M w s d ≡ getD (f s) d 0
   kept alike s d i p a e =
       let q : d ≡ toColumn l + (d - toColumn l) = omega arith in
       rw q (m .above s (toColumn l + (d - toColumn l)) i (omega arith) (omega arith) ∙ sym (alike s i p (d - toColumn l) (omega arith)))
 
-  pub link-up : (x : ℕ) (k : List ℕ) → length k ≡ linkWords → x < n → ((s : ℕ) → s < n → s ≢ x → Alike f g l s) → LinkOf f l x k
+  pub link-up : (x : ℕ) (k : List ℕ) → length k ≡ linkWords → x < n → ((s : ℕ) → s < n → s ≢ x → SameLink f g l s) → LinkOf f l x k
       → Between M n f g lo (toColumn (l + 1)) (putLink M w x l k)
   unfolding putLink
   link-up x k len xn alike at-x =
@@ -50,7 +50,7 @@ module _ {M n : ℕ} {f g : ℕ → List ℕ} {w : List ℕ} {l lo : ℕ} (lm : 
       between-up stored b (omega arith) refl refl m
 
   pub links-up : (x : ℕ) (k : List ℕ) (y : ℕ) (i : List ℕ) → length k ≡ linkWords → length i ≡ linkWords → x < n → y < n
-      → ((s : ℕ) → s < n → s ≢ x → s ≢ y → Alike f g l s) → LinkOf f l x k → LinkOf f l y i → Between M n f g lo (toColumn (l + 1)) (putLink M (putLink M w x l k) y l i)
+      → ((s : ℕ) → s < n → s ≢ x → s ≢ y → SameLink f g l s) → LinkOf f l x k → LinkOf f l y i → Between M n f g lo (toColumn (l + 1)) (putLink M (putLink M w x l k) y l i)
   unfolding putLink
   links-up x k y i len len′ xn yn alike at-x at-y =
       let stored = rows-stored M n f (toColumn l) (toColumn (l + 1)) (omega arith) w (m .size) x k y i (omega arith) (omega arith) xn yn
@@ -97,7 +97,7 @@ module _ {S T : State} {a o : ℕ} {A X Y : List Node} (H : Hung S T a o A X Y) 
   pub old-link-o : LinkOf (recordOf S) l o (linkAt m w o l)
   old-link-o j q = sym (link-field m w o l j q ∙ g .between .above o (toColumn l + j) on (omega arith) (omega arith))
 
-  elsewhere : (z : ℕ) → z < slots-of S → z ≢ s → z ≢ o → Alike (recordOf T) (recordOf S) l z
+  elsewhere : (z : ℕ) → z < slots-of S → z ≢ s → z ≢ o → SameLink (recordOf T) (recordOf S) l z
   elsewhere z i p q j f = st .same (toColumn l + j) j (its-column j f) z i p q
 
   module _ (i : List ℕ) (e : i ≡ linkFrom (length A - r) (suc l) Y) where
@@ -111,7 +111,7 @@ module _ {S T : State} {a o : ℕ} {A X Y : List Node} (H : Hung S T a o A X Y) 
       between = links-up k (omega arith) (g .between) s i o i′ (ap length e) len (st .known) on elsewhere new-link at-o;
     })
 
-    pub relinked-one : Alike (recordOf T) (recordOf S) l o → (x : List ℕ) → x ≡ putLink m w s l i → Relinked S T fr m (l + 1) x
+    pub relinked-one : SameLink (recordOf T) (recordOf S) l o → (x : List ℕ) → x ≡ putLink m w s l i → Relinked S T fr m (l + 1) x
     relinked-one at-o x ex = rw ex (record {
       front = link-front m w s l i ∙ g .front;
       between = link-up k (omega arith) (g .between) s i (ap length e) (st .known)

@@ -7,7 +7,7 @@ use native.Mathlib.Omega.{arith}
 use Rattle.model.specs.Arena.{lastSlot}
 use Rattle.model.specs.Nodes.{N}
 use Rattle.model.specs.Passes.{freeChain}
-use Rattle.model.proofs.Apart.{first, ends-at, Run, Within as Inside}
+use Rattle.model.proofs.Apart.{first, ends-at, Stretch, InRange}
 use Rattle.model.proofs.Columns.{free-step}
 use Rattle.link_check.specs.declared.Dims.{Dims}
 use Rattle.link_check.specs.Shape.{Shape, heightIn, nextIn}
@@ -22,12 +22,12 @@ module _ (w : List ℕ) (d : Dims) (v : Shape w d) where
   first-node zero s f = f
   first-node (suc n) s f = refl
 
-  pub formed-follows : (n s : ℕ) → Formed w d n s → Run (nextIn w d) (slots (nodesFrom w d n s))
+  pub formed-follows : (n s : ℕ) → Formed w d n s → Stretch (nextIn w d) (slots (nodesFrom w d n s))
   formed-follows zero s f = tt
   formed-follows (suc n) s f =
       (first-node n (nextIn w d s) (f .1), omega (arith, f .0 .slot .below, v .ranges .lists-most, v .ranges .room-most), formed-follows n (nextIn w d s) (f .1))
 
-  pub formed-inside : (n s : ℕ) → Formed w d n s → Inside (d .lists) (d .room) (slots (nodesFrom w d n s))
+  pub formed-inside : (n s : ℕ) → Formed w d n s → InRange (d .lists) (d .room) (slots (nodesFrom w d n s))
   formed-inside zero s f = tt
   formed-inside (suc n) s f = (f .0 .slot .from, f .0 .slot .below, formed-inside n (nextIn w d s) (f .1))
 
@@ -41,17 +41,17 @@ module _ (w : List ℕ) (d : Dims) (v : Shape w d) where
   first-free zero s f = f
   first-free (suc n) s f = refl
 
-  pub free-follows : (n s : ℕ) → FreeFrom w d n s → Run (nextIn w d) (freeChain (d .levels) w n s)
+  pub free-follows : (n s : ℕ) → FreeFrom w d n s → Stretch (nextIn w d) (freeChain (d .levels) w n s)
   unfolding FreeFrom
   free-follows zero s f = tt
   free-follows (suc n) s f =
-      subst (Run (nextIn w d)) (sym (free-step (d .levels) w n s))
+      subst (Stretch (nextIn w d)) (sym (free-step (d .levels) w n s))
       (first-free n (nextIn w d s) (f .1), omega (arith, f .0 .slot .below, v .ranges .lists-most, v .ranges .room-most), free-follows n (nextIn w d s) (f .1))
 
-  pub free-inside : (n s : ℕ) → FreeFrom w d n s → Inside (d .lists) (d .room) (freeChain (d .levels) w n s)
+  pub free-inside : (n s : ℕ) → FreeFrom w d n s → InRange (d .lists) (d .room) (freeChain (d .levels) w n s)
   unfolding FreeFrom
   free-inside zero s f = tt
-  free-inside (suc n) s f = subst (Inside (d .lists) (d .room)) (sym (free-step (d .levels) w n s)) (f .0 .slot .from, f .0 .slot .below, free-inside n (nextIn w d s) (f .1))
+  free-inside (suc n) s f = subst (InRange (d .lists) (d .room)) (sym (free-step (d .levels) w n s)) (f .0 .slot .from, f .0 .slot .below, free-inside n (nextIn w d s) (f .1))
 
   -- a free slot is told from a list's by word 1
   pub free-apart : (n s m t : ℕ) → FreeFrom w d n s → Formed w d m t → ends-at (freeChain (d .levels) w n s) ≡ lastSlot (nodesFrom w d m t)

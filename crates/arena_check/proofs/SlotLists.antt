@@ -9,7 +9,7 @@ use Rattle.model.specs.Arena.{countColumn, nextColumn, lastSlot}
 use Rattle.model.specs.Cells.{recordAt}
 use Rattle.model.specs.Nodes.{Node, N}
 use Rattle.model.specs.Passes.{times, timesAll, timesFree, chain, listsFrom}
-use Rattle.model.proofs.Apart.{ends-at, Run, Runs, Other, Apart, Within as Inside, Withins, occAll, total}
+use Rattle.model.proofs.Apart.{ends-at, Stretch, Runs, Other, Apart, InRange, Withins, occAll, total}
 use Rattle.model.proofs.Columns.{cell-record, length-chain}
 use Rattle.model.proofs.Counting.{total as totalNodes}
 use Rattle.model.proofs.Records.{timesAll-ge}
@@ -71,11 +71,11 @@ total-lengths w d a (suc n) = let e : a + suc n ≡ suc a + n = omega arith in r
         omega (arith, length-slots (chain M w count next), length-chain M w count next, cell-record M w a countColumn (omega arith))
 
 -- ---- chains, one by one ----
-pub runs-all : (nx : ℕ → ℕ) (xss : List (List Node)) → ((a : ℕ) → a < length xss → Run nx (slots (getD xss a []))) → Runs nx (slotsAll xss)
+pub runs-all : (nx : ℕ → ℕ) (xss : List (List Node)) → ((a : ℕ) → a < length xss → Stretch nx (slots (getD xss a []))) → Runs nx (slotsAll xss)
 runs-all nx [] h = tt
 runs-all nx (xs ∷ xss) h = (h 0 (omega arith), runs-all nx xss (λ a l. h (suc a) (omega arith)))
 
-pub withins-all : (L C : ℕ) (xss : List (List Node)) → ((a : ℕ) → a < length xss → Inside L C (slots (getD xss a []))) → Withins L C (slotsAll xss)
+pub withins-all : (L C : ℕ) (xss : List (List Node)) → ((a : ℕ) → a < length xss → InRange L C (slots (getD xss a []))) → Withins L C (slotsAll xss)
 withins-all L C [] h = tt
 withins-all L C (xs ∷ xss) h = (h 0 (omega arith), withins-all L C xss (λ a l. h (suc a) (omega arith)))
 

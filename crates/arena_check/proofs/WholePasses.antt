@@ -11,7 +11,7 @@ use Rattle.model.specs.Arena.{lastSlot}
 use Rattle.model.specs.Calls.{CheckPromise}
 use Rattle.model.specs.Nodes.{Node, Sorted, Low}
 use Rattle.model.specs.Passes.{decode, nodes, timesAll, timesFree, LinkIs, Passes, Clauses}
-use Rattle.model.proofs.Apart.{Apart, Run, Within as Inside, Runs, Withins, ends-at, total, each-once}
+use Rattle.model.proofs.Apart.{Apart, Stretch, InRange, Runs, Withins, ends-at, total, each-once}
 use Rattle.model.proofs.Clauses.{clauses-pass, passes-clauses}
 use Rattle.model.proofs.Columns.{nodes-are, lists-are, length-free}
 use Rattle.model.proofs.Counting.{all-slots}
@@ -60,7 +60,7 @@ module _ (w : List ℕ) where
       free-follows w d v (freeCount w) (firstFreeSlot w) (f .free),
       runs-all (nextIn w d) (decode w .lists) (λ a l.
           let k = within-lists a l in
-          subst (λ (xs : List Node). Run (nextIn w d) (slots xs)) (sym (nodes-from a k))
+          subst (λ (xs : List Node). Stretch (nextIn w d) (slots xs)) (sym (nodes-from a k))
           (formed-follows w d v (countIn w d a) (nextIn w d a) (facts a k .formed))),
     )
 
@@ -69,7 +69,7 @@ module _ (w : List ℕ) where
       free-inside w d v (freeCount w) (firstFreeSlot w) (f .free),
       withins-all (d .lists) (d .room) (decode w .lists) (λ a l.
           let k = within-lists a l in
-          subst (λ (xs : List Node). Inside (d .lists) (d .room) (slots xs)) (sym (nodes-from a k))
+          subst (λ (xs : List Node). InRange (d .lists) (d .room) (slots xs)) (sym (nodes-from a k))
           (formed-inside w d v (countIn w d a) (nextIn w d a) (facts a k .formed))),
     )
 

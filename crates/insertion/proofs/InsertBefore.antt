@@ -104,7 +104,7 @@ module _ {w₀ : List ℕ} {m a i k h : ℕ} (p : CanInsert w₀ m a i k h) wher
 
   -- ---- what is stored; e is the slot before the place ----
   -- the words read, by the variable that each went into
-  pub record Reads (e z free rest n next l last : ℕ) : Type 0 where
+  pub record InsertReads (e z free rest n next l last : ℕ) : Type 0 where
     pub slot : z ≡ getD w₀ firstFreeWord 0
     pub number : free ≡ getD w₀ freeWord 0
     pub next-free : rest ≡ cellAt m w₀ z nextColumn
@@ -134,7 +134,7 @@ module _ {w₀ : List ℕ} {m a i k h : ℕ} (p : CanInsert w₀ m a i k h) wher
         node = lies (small p) (g .between) o (o-in p);
       })
 
-      module _ {z free rest n next l last : ℕ} (q : Reads e z free rest n next l last) where
+      module _ {z free rest n next l last : ℕ} (q : InsertReads e z free rest n next l last) where
         zo : z ≡ o
         zo = slot-is (q .slot)
 

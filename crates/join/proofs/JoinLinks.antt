@@ -106,10 +106,10 @@ module _ {w₀ : List ℕ} {m a b : ℕ} (p : Joins w₀ m a b) where
   stage-of h s r l er es = stage-is H h (omega (arith, p .onto .levels)) s r (er ∙ ap (last h) (take-all (length A) A (omega arith))) es
 
   -- the links of the levels below l are as after the join
-  abbrev pub Levels : ℕ → List ℕ → Type 0
-  Levels l w = Relinked S T (take 8 w₀) m l w
+  abbrev pub JoinLevels : ℕ → List ℕ → Type 0
+  JoinLevels l w = Relinked S T (take 8 w₀) m l w
 
-  pub no-level : Levels 0 w₀
+  pub no-level : JoinLevels 0 w₀
   no-level = relink-start w₀ (p .onto .passes) T m (p .onto .levels)
 
   pub count-cell : Cell w₀ m a 0
@@ -145,12 +145,12 @@ module _ {w₀ : List ℕ} {m a b : ℕ} (p : Joins w₀ m a b) where
       pub now-hung : fartherLink (n - r) (linkAt m w b l) ≡ linkFrom (length A - r) (suc l) B
       now-hung = ap (fartherLink (n - r)) (head-link (p .from) g k) ∙ farther-of (n - r) (suc l) B ∙ ap (λ (x : ℕ). linkFrom (x - r) (suc l) B) en
 
-    module _ {w : List ℕ} (g : Levels l w) where
+    module _ {w : List ℕ} (g : JoinLevels l w) where
       b-link : LinkOf (recordOf T) l b absentLink
       b-link j f =
           let lm : l < S .levels = omega (arith, p .onto .levels) in
           ap (λ (R : List ℕ). getD R (toColumn l + j) 0) (b-S like) ∙ link-column (S .levels) l j lm f .head [] ∙ (rw (le-leb (suc l) (S .levels) lm) refl)
 
-      pub next-level : {x : List ℕ} → x ≡ putLink m (putLink m w s l (fartherLink (n - r) (linkAt m w b l))) b l absentLink → Levels (l + 1) x
+      pub next-level : {x : List ℕ} → x ≡ putLink m (putLink m w s l (fartherLink (n - r) (linkAt m w b l))) b l absentLink → JoinLevels (l + 1) x
       next-level {x} ex =
           relinked H b-in (p .onto .levels) small g k last-owner (fartherLink (n - r) (linkAt m w b l)) (now-hung g) absentLink refl b-link x ex

@@ -39,17 +39,17 @@ module _ {w₀ : List ℕ} {m a b : ℕ} (p : Joins w₀ m b a) where
   T = doJoinBefore S a b
 
   -- the links of the levels below l are as after the join before
-  abbrev pub Levels : ℕ → List ℕ → Type 0
-  Levels l w = Relinked S T (take 8 w₀) m l w
+  abbrev pub BeforeLevels : ℕ → List ℕ → Type 0
+  BeforeLevels l w = Relinked S T (take 8 w₀) m l w
 
-  pub no-level : Levels 0 w₀
+  pub no-level : BeforeLevels 0 w₀
   no-level = relink-start w₀ (p .onto .passes) T m (p .onto .levels)
 
   bn : b < slots-of S
   bn = omega (arith, p .onto .list)
 
   module _ {n : ℕ} (en : n ≡ length (nodes w₀ b)) {slots ranks : List ℕ} (q : Before w₀ m b (length (nodes w₀ b)) slots ranks)
-      {l : ℕ} (k : l < m) {w : List ℕ} (g : Levels l w) where
+      {l : ℕ} (k : l < m) {w : List ℕ} (g : BeforeLevels l w) where
     abbrev s : ℕ
     s = getD slots l 0
 
@@ -75,5 +75,5 @@ module _ {w₀ : List ℕ} {m a b : ℕ} (p : Joins w₀ m b a) where
         head-moved moves (last-owner p en q k .known) (b-in p) bn m (omega arith) w (g .between .size)
         (λ i j x f. g .between .above i (toColumn l + j) x (omega arith) (omega arith)) (linkAt m u b l) refl refl (λ j f. link-field m u b l j f)
 
-    pub next-level : {x : List ℕ} → x ≡ linkBefore m w l s hung a b → Levels (l + 1) x
+    pub next-level : {x : List ℕ} → x ≡ linkBefore m w l s hung a b → BeforeLevels (l + 1) x
     next-level ex = rw ex (record { front = stored .front ∙ g .front; between = between-up stored (omega arith) (omega arith) refl (omega arith) (g .between) })

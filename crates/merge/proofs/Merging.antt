@@ -16,7 +16,7 @@ use Rattle.model.proofs.Allowed.{no-length}
 use Rattle.model.proofs.Composing.{merge-step}
 use Rattle.model.proofs.Keeps.{sound-remove, sound-insert, low-list}
 use Rattle.model.proofs.Splitting.{withLists}
-use Rattle.merge.proofs.Holding.{Holds, holds, still-listed}
+use Rattle.merge.proofs.Holding.{HoldsMoved, holds, still-listed}
 
 first-of : (ys : List Node) → 0 < length ys → ys ≡ at ys 0 ∷ drop 1 ys
 first-of [] l = absurd (omega arith)
@@ -48,7 +48,7 @@ module _ {w : List ℕ} {m a b : ℕ} (p : TwoLists w m a b) (some : 0 < length 
 
   -- the first of b is out: its slot is first on the free chain
   module _ {u : List ℕ} (e : u ≡ encode R) where
-    removed : Holds w u R
+    removed : HoldsMoved w u R
     removed = holds (p .second .passes) sound-R (record { levels = refl; room = refl; lists = lists-R }) e
 
     pub a-listed : Listed u m a
@@ -72,7 +72,7 @@ module _ {w : List ℕ} {m a b : ℕ} (p : TwoLists w m a b) (some : 0 < length 
     is-moved : movedFirst S a b ≡ withLists S (set (set (S .lists) b ys) a (insert y (listOf S a)))
     is-moved = merge-step S a b y ys (first-of (nodes w b) some) (p .apart)
 
-    moved : Holds w u (movedFirst S a b)
+    moved : HoldsMoved w u (movedFirst S a b)
     moved = holds (p .first .passes)
         (sound-insert R sound-R a (omega (arith, lists-R, p .first .list)) (slotAt b (listOf S b) 1) (S .free) (y .key) (y .height) refl low)
         (record {

@@ -23,17 +23,17 @@ ends-at (x ∷ []) = x
 ends-at (x ∷ y ∷ xs) = ends-at (y ∷ xs)
 
 -- every slot is one of the C from L on
-abbrev pub Within : ℕ → ℕ → List ℕ → Type 0
-Within L C [] = Unit {0}
-Within L C (x ∷ xs) = (L ≤ x) × (x < L + C) × Within L C xs
+abbrev pub InRange : ℕ → ℕ → List ℕ → Type 0
+InRange L C [] = Unit {0}
+InRange L C (x ∷ xs) = (L ≤ x) × (x < L + C) × InRange L C xs
 
 module _ (nx : ℕ → ℕ) where
   -- the list follows `nx` and ends at N
-  abbrev pub Run : List ℕ → Type 0
-  Run [] = Unit {0}
-  Run (x ∷ xs) = (nx x ≡ first xs) × (x < N) × Run xs
+  abbrev pub Stretch : List ℕ → Type 0
+  Stretch [] = Unit {0}
+  Stretch (x ∷ xs) = (nx x ≡ first xs) × (x < N) × Stretch xs
 
-  run-tail : (x : ℕ) (xs ys : List ℕ) → Run (x ∷ xs) → Run (x ∷ ys) → xs ≡ ys
+  run-tail : (x : ℕ) (xs ys : List ℕ) → Stretch (x ∷ xs) → Stretch (x ∷ ys) → xs ≡ ys
   run-tail x [] [] p q = refl
   run-tail x [] (y ∷ ys) p q = absurd (omega (arith, p .0, q .0, q .2 .1))
   run-tail x (z ∷ xs) [] p q = absurd (omega (arith, p .0, q .0, p .2 .1))
@@ -42,12 +42,12 @@ module _ (nx : ℕ → ℕ) where
       let r = rw e at (p .2) in
       rw (e, run-tail y xs ys r (q .2)) refl
 
-  run-drop : (aa bb : List ℕ) → Run (aa ++ bb) → Run bb
+  run-drop : (aa bb : List ℕ) → Stretch (aa ++ bb) → Stretch bb
   run-drop [] bb p = p
   run-drop (a ∷ aa) bb p = run-drop aa bb (p .2)
 
   -- no slot twice in one chain
-  run-once : (x : ℕ) (xs : List ℕ) → Run xs → timesFree x xs ≤ 1
+  run-once : (x : ℕ) (xs : List ℕ) → Stretch xs → timesFree x xs ≤ 1
   run-once x [] p = omega arith
   run-once x (y ∷ xs) p = elim (same? y x) [
     | other e q ↦ rw e (run-once x xs (p .2))
@@ -66,21 +66,21 @@ module _ (nx : ℕ → ℕ) where
   ends-mid (a ∷ c ∷ aa) x bb = ends-mid (c ∷ aa) x bb
 
   -- a slot in two chains: they end alike
-  run-meet : (x : ℕ) (xs ys : List ℕ) → Run xs → Run ys → 1 ≤ timesFree x xs → 1 ≤ timesFree x ys → ends-at xs ≡ ends-at ys
+  run-meet : (x : ℕ) (xs ys : List ℕ) → Stretch xs → Stretch ys → 1 ≤ timesFree x xs → 1 ≤ timesFree x ys → ends-at xs ≡ ends-at ys
   run-meet x xs ys p q l k =
       let i = in-free x xs l in
       let j = in-free x ys k in
       let t = run-tail x (i .1) (j .1) (run-drop (i .0) (x ∷ i .1) (rw (i .2) at p)) (run-drop (j .0) (x ∷ j .1) (rw (j .2) at q)) in
       rw (i .2, j .2, ends-mid (i .0) x (i .1), ends-mid (j .0) x (j .1), t) refl
 
-  run-end : (x : ℕ) (xs : List ℕ) → Run xs → 1 ≤ timesFree x xs → ends-at xs < N
+  run-end : (x : ℕ) (xs : List ℕ) → Stretch xs → 1 ≤ timesFree x xs → ends-at xs < N
   run-end x [] p l = absurd (omega arith)
   run-end x (y ∷ []) p l = p .1
   run-end x (y ∷ z ∷ xs) p l = run-end z (z ∷ xs) (p .2) (rw (eq-eqb z z refl) (omega arith))
 
   abbrev pub Runs : List (List ℕ) → Type 0
   Runs [] = Unit {0}
-  Runs (c ∷ cs) = Run c × Runs cs
+  Runs (c ∷ cs) = Stretch c × Runs cs
 
 abbrev pub occAll : ℕ → List (List ℕ) → ℕ
 occAll x [] = zero
@@ -96,7 +96,7 @@ Apart [] = Unit {0}
 Apart (c ∷ cs) = Other (ends-at c) cs × Apart cs
 
 module _ (nx : ℕ → ℕ) where
-  apart-from : (x : ℕ) (c : List ℕ) (cs : List (List ℕ)) → Run nx c → Runs nx cs → Other (ends-at c) cs → 1 ≤ timesFree x c → occAll x cs ≡ 0
+  apart-from : (x : ℕ) (c : List ℕ) (cs : List (List ℕ)) → Stretch nx c → Runs nx cs → Other (ends-at c) cs → 1 ≤ timesFree x c → occAll x cs ≡ 0
   apart-from x c [] p q o l = refl
   apart-from x c (d ∷ cs) p q o l = elim (test 1 (timesFree x d)) [
     | hit e k ↦ absurd (omega (arith, o .0 (run-meet nx x c d p (q .0) l k), run-end nx x c p l))
@@ -159,7 +159,7 @@ pub timesFree-one : (x : ℕ) (xs : List ℕ) (s : ℕ) → timesFree s (x ∷ x
 unfolding one-at
 timesFree-one x xs s = elim (same? x s) [ same e p ↦ rw e (omega arith) | other e p ↦ rw e (omega arith) ]
 
-pub sum-chain : (L C : ℕ) (xs : List ℕ) → Within L C xs → sum (λ s. timesFree s xs) L C ≡ length xs
+pub sum-chain : (L C : ℕ) (xs : List ℕ) → InRange L C xs → sum (λ s. timesFree s xs) L C ≡ length xs
 sum-chain L C [] w = sum-zero L C
 sum-chain L C (x ∷ xs) w =
     sum-ext (λ s. timesFree s (x ∷ xs)) (λ s. one-at x s + timesFree s xs) (timesFree-one x xs) L C
@@ -167,7 +167,7 @@ sum-chain L C (x ∷ xs) w =
 
 abbrev pub Withins : ℕ → ℕ → List (List ℕ) → Type 0
 Withins L C [] = Unit {0}
-Withins L C (c ∷ cs) = Within L C c × Withins L C cs
+Withins L C (c ∷ cs) = InRange L C c × Withins L C cs
 
 abbrev pub total : List (List ℕ) → ℕ
 total [] = zero

@@ -14,7 +14,7 @@ use Rattle.model.proofs.Columns.{chain-step, free-step, first-chain, fi
 use Rattle.model.proofs.Tests.{same, other, same?}
 
 -- the words of node y, that ys follow
-pub record Stands (L M C : ℕ) (w : List ℕ) (y : Node) (ys : List Node) : Type 0 where
+pub record StandsAt (L M C : ℕ) (w : List ℕ) (y : Node) (ys : List Node) : Type 0 where
   pub key : cellAt M w (y .slot) 0 ≡ y .key
   pub height : cellAt M w (y .slot) 1 ≡ y .height
   pub next : cellAt M w (y .slot) 2 ≡ firstSlot ys
@@ -42,15 +42,15 @@ module _ (L M C : ℕ) (w : List ℕ) where
       through zero l = p
       through (suc j) l = rw e (h .through j (omega arith))
 
-  pub stands : (n s : ℕ) (aa : List Node) (y : Node) (ys : List Node) → Chained L M C w n s → chain M w n s ≡ aa ++ y ∷ ys → Stands L M C w y ys
+  pub stands : (n s : ℕ) (aa : List Node) (y : Node) (ys : List Node) → Chained L M C w n s → chain M w n s ≡ aa ++ y ∷ ys → StandsAt L M C w y ys
   stands zero s aa y ys h e = absurd (omega (arith, ap length e, length-append aa (y ∷ ys)))
   stands (suc n) s [] y ys h e =
       let g : node s (cellAt M w s 0) (cellAt M w s 1) ∷ chain M w n (cellAt M w s 2) ≡ y ∷ ys = sym (chain-step M w n s) ∙ e in
       let p : node s (cellAt M w s 0) (cellAt M w s 1) ≡ y = cc in
       let q : chain M w n (cellAt M w s 2) ≡ ys = cc in
       let t = chained-next n s h in
-      subst (λ (z : Node). Stands L M C w z ys) p
-      (subst (λ (z : List Node). Stands L M C w (node s (cellAt M w s 0) (cellAt M w s 1)) z) q
+      subst (λ (z : Node). StandsAt L M C w z ys) p
+      (subst (λ (z : List Node). StandsAt L M C w (node s (cellAt M w s 0) (cellAt M w s 1)) z) q
       (record {
         key = refl;
         height = refl;

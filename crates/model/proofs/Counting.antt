@@ -8,7 +8,7 @@ use borrow.Author.Tests.{eq-eqb}
 use Rattle.model.specs.Arena.{State, listOf}
 use Rattle.model.specs.Nodes.{Node}
 use Rattle.model.specs.Passes.{times, timesAll, timesFree, Sound}
-use Rattle.model.proofs.Apart.{sum, one-at, sum-add, sum-one, sum-ext, sum-zero, sum-chain, Within}
+use Rattle.model.proofs.Apart.{sum, one-at, sum-add, sum-one, sum-ext, sum-zero, sum-chain, InRange}
 use Rattle.model.proofs.Records.{placed}
 use Rattle.model.proofs.Tests.{same, other, same?}
 
@@ -44,7 +44,7 @@ module _ (L C : ℕ) where
   sum-lists (xs ∷ xss) h =
       sum-add (λ s. times s xs) (λ s. timesAll s xss) L C ∙ omega (arith, sum-nodes xs (λ s k. h s (omega arith)), sum-lists xss (λ s k. h s (omega arith)))
 
-  sum-free : (fs : List ℕ) → Inside (λ s. timesFree s fs) → Within L C fs
+  sum-free : (fs : List ℕ) → Inside (λ s. timesFree s fs) → InRange L C fs
   unfolding Inside
   sum-free [] h = tt
   sum-free (f ∷ fs) h =

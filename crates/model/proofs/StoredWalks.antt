@@ -14,8 +14,8 @@ use Rattle.model.specs.Cells.{cellAt, linkAt}
 use Rattle.model.specs.Links.{distance, target, linkOf}
 use Rattle.model.specs.Nodes.{Node, node, N, at, keyAt, slotAt, heightAt}
 use Rattle.model.specs.Passes.{decode, nodes, Passes}
-use Rattle.model.specs.StoredWalks.{Spot, spot, alongStored, descendStored, nextStored, keyWalkStored}
-use Rattle.model.specs.StoredWalks.{alongRanksStored, descendRanksStored, nextRanksStored, rankWalkStored, spotAt}
+use Rattle.model.specs.StoredWalks.{Footing, footing, alongStored, descendStored, nextStored, keyWalkStored}
+use Rattle.model.specs.StoredWalks.{alongRanksStored, descendRanksStored, nextRanksStored, rankWalkStored, footingAt}
 use Rattle.model.specs.Walks.{Stand, stand, along, descend, byNext, keyWalk, alongRanks, descendRanks, nextRanks, rankWalk}
 use Rattle.model.proofs.Clauses.{passes-clauses, head-cell, node-cell}
 use Rattle.model.proofs.Columns.{lists-are}
@@ -52,14 +52,14 @@ module _ (w : List ℕ) (p : Passes w) (a : ℕ) (la : a < length (decode w .lis
   own-slot i k e = omega (arith, slot-of (decode w) (p .sound) a (take i xs) (at xs i) (drop (suc i) xs) (cut i k) .1, p .sizes, e)
 
   -- where a present link of stage h leads: the owner d + 1 ranks on
-  record Leads (h r d : ℕ) : Type 0 where
+  record Ahead (h r d : ℕ) : Type 0 where
     inside : r + suc d ≤ length xs
     to : target h (drop r xs) ≡ slotAt a xs (r + suc d)
     some : slotAt a xs (r + suc d) ≢ N
     key : cellAt M w (slotAt a xs (r + suc d)) keyColumn ≡ keyAt xs (r + suc d - 1)
     tall : h ≤ heightAt M xs (r + suc d)
 
-  leads : (h r d : ℕ) → r ≤ length xs → distance h (drop r xs) ≡ suc d → Leads h r d
+  leads : (h r d : ℕ) → r ≤ length xs → distance h (drop r xs) ≡ suc d → Ahead h r d
   leads h r d k f =
       let e : r + suc d ≡ suc (r + d) = omega arith in
       let e′ : r + suc d - 1 ≡ r + d = omega arith in
@@ -75,15 +75,15 @@ module _ (w : List ℕ) (p : Passes w) (a : ℕ) (la : a < length (decode w .lis
       }
 
   -- ---- along a level ----
-  abbrev spot-at : Stand → Spot
-  spot-at s = spot (slotAt a xs (s .rank)) (s .rank) (s .tally)
+  abbrev footing-at : Stand → Footing
+  footing-at s = footing (slotAt a xs (s .rank)) (s .rank) (s .tally)
 
-  record Alike (l : ℕ) (u : Spot) (s : Stand) : Type 0 where
-    same : u ≡ spot-at s
+  record SameFooting (l : ℕ) (u : Footing) (s : Stand) : Type 0 where
+    same : u ≡ footing-at s
     inside : s .rank ≤ length xs
     tall : l ≤ heightAt M xs (s .rank)
 
-  along-same : (n l t r k : ℕ) → l < M → r ≤ length xs → suc l ≤ heightAt M xs r → Alike (suc l) (alongStored n l M w t (spot-at (stand r k))) (along n l t xs (stand r k))
+  along-same : (n l t r k : ℕ) → l < M → r ≤ length xs → suc l ≤ heightAt M xs r → SameFooting (suc l) (alongStored n l M w t (footing-at (stand r k))) (along n l t xs (stand r k))
   along-same zero l t r k lm i u = record { same = refl; inside = i; tall = u }
   along-same (suc n) l t r k lm i u = by (distance (suc l) (drop r xs)) refl (λ d. along-same n l t (r + d) (k + 1) lm)
     where
@@ -95,8 +95,8 @@ module _ (w : List ℕ) (p : Passes w) (a : ℕ) (la : a < length (decode w .lis
 
       by : (d : ℕ) → distance (suc l) (drop r xs) ≡ d
           → ((d : ℕ) → r + d ≤ length xs → suc l ≤ heightAt M xs (r + d)
-          → Alike (suc l) (alongStored n l M w t (spot-at (stand (r + d) (k + 1)))) (along n l t xs (stand (r + d) (k + 1))))
-          → Alike (suc l) (alongStored (suc n) l M w t (spot-at (stand r k))) (along (suc n) l t xs (stand r k))
+          → SameFooting (suc l) (alongStored n l M w t (footing-at (stand (r + d) (k + 1)))) (along n l t xs (stand (r + d) (k + 1))))
+          → SameFooting (suc l) (alongStored (suc n) l M w t (footing-at (stand r k))) (along (suc n) l t xs (stand r k))
       by zero f on = rw (to ∙ target-none (suc l) (drop r xs) f, f) (record { same = refl; inside = i; tall = u })
       by (suc d) f on =
           let g = leads (suc l) r d i f in
@@ -108,7 +108,7 @@ module _ (w : List ℕ) (p : Passes w) (a : ℕ) (la : a < length (decode w .lis
 
   -- ---- down the levels ----
   descend-same : (l t : ℕ) (s : Stand) → l ≤ M → s .rank ≤ length xs → l ≤ heightAt M xs (s .rank)
-      → Alike 0 (descendStored l (length xs) M w t (spot-at s)) (descend l t xs s)
+      → SameFooting 0 (descendStored l (length xs) M w t (footing-at s)) (descend l t xs s)
   descend-same zero t s lm i u = record { same = refl; inside = i; tall = omega arith }
   descend-same (suc l) t s lm i u =
       let g = along-same (length xs) l t (s .rank) (s .tally) lm i u in
@@ -135,7 +135,7 @@ module _ (w : List ℕ) (p : Passes w) (a : ℕ) (la : a < length (decode w .lis
       let q = drop-cons xs r (node N 0 0) l in
       record { rest = rw e q; to = rw e (own-next r (omega arith) ∙ ap firstSlot q); some = rw e (own-slot r l); key = rw e (own-key r l) }
 
-  next-same : (n t r k : ℕ) → r ≤ length xs → length xs ≤ r + n → nextStored n M w t (spot-at (stand r k)) ≡ byNext t (stand r k) (drop r xs)
+  next-same : (n t r k : ℕ) → r ≤ length xs → length xs ≤ r + n → nextStored n M w t (footing-at (stand r k)) ≡ byNext t (stand r k) (drop r xs)
   next-same zero t r k i j = rw (nothing-left r (omega arith)) refl
   next-same (suc n) t r k i j = elim (test (suc r) (length xs)) [
     | miss e p ↦
@@ -163,7 +163,7 @@ module _ (w : List ℕ) (p : Passes w) (a : ℕ) (la : a < length (decode w .lis
 
   -- ---- by rank ----
   along-ranks-same : (n l t r : ℕ) → l < M → r ≤ length xs → suc l ≤ heightAt M xs r
-      → Alike (suc l) (alongRanksStored n l M w t (spot-at (stand r 0))) (stand (alongRanks n l t xs r) 0)
+      → SameFooting (suc l) (alongRanksStored n l M w t (footing-at (stand r 0))) (stand (alongRanks n l t xs r) 0)
   along-ranks-same zero l t r lm i u = record { same = refl; inside = i; tall = u }
   along-ranks-same (suc n) l t r lm i u = by (distance (suc l) (drop r xs)) refl (λ d. along-ranks-same n l t (r + d) lm)
     where
@@ -175,8 +175,8 @@ module _ (w : List ℕ) (p : Passes w) (a : ℕ) (la : a < length (decode w .lis
 
       by : (d : ℕ) → distance (suc l) (drop r xs) ≡ d
           → ((d : ℕ) → r + d ≤ length xs → suc l ≤ heightAt M xs (r + d)
-          → Alike (suc l) (alongRanksStored n l M w t (spot-at (stand (r + d) 0))) (stand (alongRanks n l t xs (r + d)) 0))
-          → Alike (suc l) (alongRanksStored (suc n) l M w t (spot-at (stand r 0))) (stand (alongRanks (suc n) l t xs r) 0)
+          → SameFooting (suc l) (alongRanksStored n l M w t (footing-at (stand (r + d) 0))) (stand (alongRanks n l t xs (r + d)) 0))
+          → SameFooting (suc l) (alongRanksStored (suc n) l M w t (footing-at (stand r 0))) (stand (alongRanks (suc n) l t xs r) 0)
       by zero f on = rw (to ∙ target-none (suc l) (drop r xs) f, f) (record { same = refl; inside = i; tall = u })
       by (suc d) f on =
           let g = leads (suc l) r d i f in
@@ -187,13 +187,13 @@ module _ (w : List ℕ) (p : Passes w) (a : ℕ) (la : a < length (decode w .lis
           ]
 
   descend-ranks-same : (l t r : ℕ) → l ≤ M → r ≤ length xs → l ≤ heightAt M xs r
-      → Alike 0 (descendRanksStored l (length xs) M w t (spot-at (stand r 0))) (stand (descendRanks l t xs r) 0)
+      → SameFooting 0 (descendRanksStored l (length xs) M w t (footing-at (stand r 0))) (stand (descendRanks l t xs r) 0)
   descend-ranks-same zero t r lm i u = record { same = refl; inside = i; tall = omega arith }
   descend-ranks-same (suc l) t r lm i u =
       let g = along-ranks-same (length xs) l t r lm i u in
       rw (g .same) (descend-ranks-same l t (alongRanks (length xs) l t xs r) (omega arith) (g .inside) (omega (arith, g .tall)))
 
-  next-ranks-same : (n t r : ℕ) → r ≤ length xs → length xs ≤ r + n → nextRanksStored n M w t (spot-at (stand r 0)) ≡ spotAt a xs (nextRanks t r (drop r xs))
+  next-ranks-same : (n t r : ℕ) → r ≤ length xs → length xs ≤ r + n → nextRanksStored n M w t (footing-at (stand r 0)) ≡ footingAt a xs (nextRanks t r (drop r xs))
   next-ranks-same zero t r i j = elim (same? r t) [
     | same e _ ↦ rw (nothing-left r (omega arith), e) refl
     | other e _ ↦ rw (nothing-left r (omega arith), e) refl
@@ -212,7 +212,7 @@ module _ (w : List ℕ) (p : Passes w) (a : ℕ) (la : a < length (decode w .lis
         ]
   ]
 
-  pub rank-walk-stored : (t : ℕ) → rankWalkStored M w a t ≡ spotAt a xs (rankWalk M t xs)
+  pub rank-walk-stored : (t : ℕ) → rankWalkStored M w a t ≡ footingAt a xs (rankWalk M t xs)
   rank-walk-stored t =
       let g = descend-ranks-same M t 0 (omega arith) (omega arith) (omega arith) in
       rw (count, g .same) (next-ranks-same (length xs) t (descendRanks M t xs 0) (g .inside) (omega arith))

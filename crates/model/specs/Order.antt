@@ -11,7 +11,7 @@ use Rattle.model.specs.Walks.{ended, rankWalk}
 use Rattle.model.specs.Lists.{insert, mergeIn}
 use Rattle.model.specs.Arena.{State, listOf, firstFree, lastSlot}
 use Rattle.model.specs.Passes.{decode, nodes, Sound, Passes, Clauses}
-use Rattle.model.specs.StoredWalks.{keyWalkStored, rankWalkStored, spotAt}
+use Rattle.model.specs.StoredWalks.{keyWalkStored, rankWalkStored, footingAt}
 use Rattle.model.specs.Calls.{Call, search, read, insertKey, removeKey, removeIndex, truncate, clear, splitAt, splitKey, appendList, middle, level}
 use Rattle.model.specs.Calls.{names, Unnamed, Answer, refused, beyond, refusal, resultOf, Promise, SetUpPromise, CheckPromise}
 use Rattle.model.specs.Refusals.{Applies}
@@ -91,7 +91,7 @@ pub record Rules : Type 0 where
 pub record Bounding : Type 0 where
   pub walks : {a k allowance : ℕ} {w u : List ℕ} {r : Answer} → Accepted (search a k allowance) w u r → r .tally ≡ ended (keyWalkStored (decode w .levels) w a k) .tally
   pub rank-walks : {w : List ℕ} → Passes w → (a t : ℕ) → a < length (decode w .lists)
-      → rankWalkStored (decode w .levels) w a t ≡ spotAt a (nodes w a) (rankWalk (decode w .levels) t (nodes w a))
+      → rankWalkStored (decode w .levels) w a t ≡ footingAt a (nodes w a) (rankWalk (decode w .levels) t (nodes w a))
   pub precursors : {w : List ℕ} → Passes w → (a k l : ℕ) → l < decode w .levels → LastBelow (suc l) k (nodes w a) (precursorRank (decode w .levels) k (nodes w a) l)
   pub by-rank : {a k allowance : ℕ} {w u : List ℕ} {r : Answer} → On (search a k allowance) w u r → r .tally ≤ smallerKeys k (nodes w a) + decode w .levels + 1
   pub by-gap : {a k allowance : ℕ} {w u : List ℕ} {r : Answer} → On (search a k allowance) w u r → r .tally ≤ (gap (decode w .levels) (nodes w a) + 1) * (decode w .levels + 1)

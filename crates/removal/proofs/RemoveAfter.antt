@@ -91,7 +91,7 @@ module _ {w₀ : List ℕ} {m a i : ℕ} (p : NodeThere w₀ m a i) where
 
   -- ---- what is stored ----
   -- the words read, by the variable that each went into
-  pub record Reads (e z next n l last first free : ℕ) : Type 0 where
+  pub record RemoveReads (e z next n l last first free : ℕ) : Type 0 where
     pub slot : z ≡ cellAt m w₀ e nextColumn
     pub next-node : next ≡ cellAt m w₀ z nextColumn
     pub count : n ≡ cellAt m w₀ a countColumn
@@ -152,7 +152,7 @@ module _ {w₀ : List ℕ} {m a i : ℕ} (p : NodeThere w₀ m a i) where
         node = lies (small p) (g .between) o (o-in p);
       })
 
-      module _ {z next n l last first free : ℕ} (q : Reads e z next n l last first free) where
+      module _ {z next n l last first free : ℕ} (q : RemoveReads e z next n l last first free) where
         next-is : next ≡ getD (nodeWords (S .levels) nd B) nextColumn 0
         next-is = q .next-node ∙ word-out (q .slot) 2 (omega arith)
 

@@ -62,13 +62,13 @@ module _ {w₀ : List ℕ} {m a b i : ℕ} (p : Splits w₀ m a b i) where
       stage-is H h (omega (arith, p .from .levels)) s r er (es ∙ sym (slot-take a i (nodes w₀ a) r (omega (arith, er, last-le h A, length-A))))
 
   -- the links of the levels below l are as after the split
-  abbrev pub Levels : ℕ → List ℕ → Type 0
-  Levels l w = Relinked S T (take 8 w₀) m l w
+  abbrev pub SplitLevels : ℕ → List ℕ → Type 0
+  SplitLevels l w = Relinked S T (take 8 w₀) m l w
 
-  pub no-level : Levels 0 w₀
+  pub no-level : SplitLevels 0 w₀
   no-level = relink-start w₀ (p .from .passes) T m (p .from .levels)
 
-  module _ {slots ranks : List ℕ} (q : Before w₀ m a i slots ranks) {l : ℕ} {w : List ℕ} (g : Levels l w) (k : l < m) where
+  module _ {slots ranks : List ℕ} (q : Before w₀ m a i slots ranks) {l : ℕ} {w : List ℕ} (g : SplitLevels l w) (k : l < m) where
     abbrev s : ℕ
     s = getD slots l 0
 
@@ -94,5 +94,5 @@ module _ {w₀ : List ℕ} {m a b i : ℕ} (p : Splits w₀ m a b i) where
         ap (λ (R : List ℕ). getD R (toColumn l + j) 0) (b-T like) ∙ link-column (S .levels) l j lm f .head B
         ∙ (rw (le-leb (suc l) (S .levels) lm) (ap (λ (k : List ℕ). getD k j 0) (sym e)))
 
-    pub next-level : {x : List ℕ} → x ≡ putLink m (putLink m w s l absentLink) b l (nearerLink (i - r) (linkAt m w s l)) → Levels (l + 1) x
+    pub next-level : {x : List ℕ} → x ≡ putLink m (putLink m w s l absentLink) b l (nearerLink (i - r) (linkAt m w s l)) → SplitLevels (l + 1) x
     next-level {x} ex = relinked H b-in (p .from .levels) small g k st absentLink refl (nearerLink (i - r) (linkAt m w s l)) refl b-link x ex

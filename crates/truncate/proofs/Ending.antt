@@ -66,18 +66,18 @@ module _ {w₀ : List ℕ} {m a n : ℕ} (p : NodeThere w₀ m a n) where
   stays-new {s} i c = ap (λ (r : List ℕ). getD r c 0) (as-new S T B s (stays S (p .listed .passes .sound) a n (p .listed .list) s i))
 
   -- the columns from lo to hi are as truncated, but for the nodes that are to be freed
-  pub record Ended (lo hi : ℕ) (w : List ℕ) : Type 0 where
+  pub record ChainEnded (lo hi : ℕ) (w : List ℕ) : Type 0 where
     pub front : take 8 w ≡ take 8 w₀
     pub between : Between m (slots-of S) R (recordOf S) lo hi w
 
-  pub none-ended : Ended (toColumn 0) (toColumn 0) w₀
+  pub none-ended : ChainEnded (toColumn 0) (toColumn 0) w₀
   none-ended = record { front = refl; between = rw (p .listed .levels) (between-start w₀ (p .listed .passes) R (toColumn 0)) }
 
-  pub same-size : {lo hi : ℕ} {w : List ℕ} → Ended lo hi w → length w ≡ length w₀
+  pub same-size : {lo hi : ℕ} {w : List ℕ} → ChainEnded lo hi w → length w ≡ length w₀
   same-size g = g .between .size ∙ sym (none-ended .between .size)
 
   -- ---- the links ----
-  module _ {slots ranks : List ℕ} (q : Before w₀ m a n slots ranks) {l : ℕ} {w : List ℕ} (g : Ended (toColumn 0) (toColumn l) w) (k : l < m) where
+  module _ {slots ranks : List ℕ} (q : Before w₀ m a n slots ranks) {l : ℕ} {w : List ℕ} (g : ChainEnded (toColumn 0) (toColumn l) w) (k : l < m) where
     abbrev s : ℕ
     s = getD slots l 0
 
@@ -90,7 +90,7 @@ module _ {w₀ : List ℕ} {m a n : ℕ} (p : NodeThere w₀ m a n) where
     pub precursor-link : LinkIn w m s l
     precursor-link = link-there m (slots-of S) small w (g .between) s l (st .known) k
 
-    pub level-ended : {x : List ℕ} → x ≡ putLink m w s l absentLink → Ended (toColumn 0) (toColumn (l + 1)) x
+    pub level-ended : {x : List ℕ} → x ≡ putLink m w s l absentLink → ChainEnded (toColumn 0) (toColumn (l + 1)) x
     level-ended ex = rw ex (record {
       front = link-front m w s l absentLink ∙ g .front;
       between = link-up k (omega arith) (g .between) s absentLink refl (st .known)
@@ -98,10 +98,10 @@ module _ {w₀ : List ℕ} {m a n : ℕ} (p : NodeThere w₀ m a n) where
           (λ j f. stays-new (st .owner) (toColumn l + j) ∙ st .new (toColumn l + j) j (its-column j f));
     })
 
-  pub unlinked : {l : ℕ} {w : List ℕ} → Ended (toColumn 0) (toColumn l) w → l ≤ m → m ≤ l → Unlinked w₀ m a n w
+  pub unlinked : {l : ℕ} {w : List ℕ} → ChainEnded (toColumn 0) (toColumn l) w → l ≤ m → m ≤ l → Unlinked w₀ m a n w
   unlinked {l} {w} g x y =
       let e : l ≡ m = le-antisymm x y in
-      let h : Ended (toColumn 0) (width m) w = subst (λ (k : ℕ). Ended (toColumn 0) (toColumn k) w) e g in
+      let h : ChainEnded (toColumn 0) (width m) w = subst (λ (k : ℕ). ChainEnded (toColumn 0) (toColumn k) w) e g in
       record { front = h .front; between = h .between }
 
   -- ---- the head, and the slot e of rank n ----
@@ -125,7 +125,7 @@ module _ {w₀ : List ℕ} {m a n : ℕ} (p : NodeThere w₀ m a n) where
       pub both-there : Cell w m a 3 × Cell w m e 2
       both-there = (there m (slots-of S) small w (g .between) a 3 a-in (omega arith), there m (slots-of S) small w (g .between) e 2 (end-stage .known) (omega arith))
 
-      pub ended : {x : List ℕ} → x ≡ putAt m (putAt m (putAt m w a 3 (cond (eqb n 0) N e)) e 2 N) a 0 n → Ended 0 (width m) x
+      pub ended : {x : List ℕ} → x ≡ putAt m (putAt m (putAt m w a 3 (cond (eqb n 0) N e)) e 2 N) a 0 n → ChainEnded 0 (width m) x
       ended ex =
           let w₃ = putAt m w a 3 (cond (eqb n 0) N e) in
           let w₂ = putAt m w₃ e 2 N in

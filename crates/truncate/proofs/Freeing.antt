@@ -31,7 +31,7 @@ use Rattle.truncate.specs.Truncation.{untilFreed}
 use Rattle.free_node.specs.NodeRecord.{HoldsNode, NodeFreed}
 use Rattle.truncate.proofs.UntilFreed.{as-old, as-new, one-less}
 use Rattle.truncate.proofs.Shortened.{nothing-freed, length-freed, slot-in, as-node, once, as-free}
-use Rattle.truncate.proofs.Ending.{H, small, Ended, none-ended, end-stage}
+use Rattle.truncate.proofs.Ending.{H, small, ChainEnded, none-ended, end-stage}
 
 -- equal records have equal columns
 at-column : (c : ℕ) {R Q : List ℕ} → R ≡ Q → getD R c 0 ≡ getD Q c 0
@@ -101,7 +101,7 @@ module _ {w₀ : List ℕ} {m a n : ℕ} (p : NodeThere w₀ m a n) where
 
   -- ---- the loop ----
   pub free-start : {e s front : ℕ} → e ≡ slotAt a xs n → s ≡ cellAt m w₀ e 2 → front ≡ getD w₀ 5 0
-      → {w : List ℕ} → Ended p 0 (width m) w → Freeing n s front w
+      → {w : List ℕ} → ChainEnded p 0 (width m) w → Freeing n s front w
   free-start {e} {s} ee es ef g = record {
     slot = es ∙ old-word e 2 (end-stage p ee .known) (omega arith) ∙ end-stage p ee .old 2 0 (next-column (S .levels))
         ∙ sym (first-target (drop n xs)) ∙ first-at xs n;

@@ -8,13 +8,13 @@ use Rattle.model.specs.Passes.{nodes}
 use Rattle.arena.specs.Owners.{Before}
 use Rattle.level_links.proofs.AfterLinks.{links-done, relinked-size}
 use Rattle.join.specs.Joins.{Joins}
-use Rattle.join.proofs.JoinLinks.{Levels, no-level, rank-le, level-joins, next-level}
+use Rattle.join.proofs.JoinLinks.{JoinLevels, no-level, rank-le, level-joins, next-level}
 use Rattle.join.proofs.join_links.Statement.{statement}
 use Rattle.join.proofs.join_links.Tie as tie
 
 abbrev Inv-loop : tie.InvT-loop
 Inv-loop w₀ m from n slots ranks l₀ w l =
-    ((a : ℕ) (p : Joins w₀ m a (from .0)) → n ≡ length (nodes w₀ a) → Before w₀ m a (length (nodes w₀ a)) slots ranks → Levels p l w) × (l ≤ m)
+    ((a : ℕ) (p : Joins w₀ m a (from .0)) → n ≡ length (nodes w₀ a) → Before w₀ m a (length (nodes w₀ a)) slots ranks → JoinLevels p l w) × (l ≤ m)
 
 abbrev μ-loop : tie.MeasureT-loop
 μ-loop w₀ m from n slots ranks l₀ w l = m - l

@@ -5,13 +5,13 @@ use borrow.Author.Needs.{needs}
 use Rattle.arena.specs.Owners.{Before}
 use Rattle.level_links.proofs.AfterLinks.{links-done, relinked-size}
 use Rattle.split.specs.Splits.{Splits}
-use Rattle.split.proofs.SplitLinks.{Levels, no-level, rank-le, both-links, next-level}
+use Rattle.split.proofs.SplitLinks.{SplitLevels, no-level, rank-le, both-links, next-level}
 use Rattle.split.proofs.split_links.Statement.{statement}
 use Rattle.split.proofs.split_links.Tie as tie
 
 abbrev Inv-loop : tie.InvT-loop
 Inv-loop w₀ m to i slots ranks l₀ w l =
-    ((a : ℕ) (p : Splits w₀ m a (to .0) (i .0)) → Before w₀ m a (i .0) slots ranks → Levels p l w) × (l ≤ m)
+    ((a : ℕ) (p : Splits w₀ m a (to .0) (i .0)) → Before w₀ m a (i .0) slots ranks → SplitLevels p l w) × (l ≤ m)
 
 abbrev μ-loop : tie.MeasureT-loop
 μ-loop w₀ m to i slots ranks l₀ w l = m - l

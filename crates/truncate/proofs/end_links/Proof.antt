@@ -5,13 +5,13 @@ use native.Mathlib.Omega.{arith}
 use borrow.Author.Needs.{needs}
 use Rattle.model.specs.Arena.{toColumn}
 use Rattle.arena.specs.Owners.{Before, NodeThere}
-use Rattle.truncate.proofs.Ending.{Ended, none-ended, same-size, precursor-link, level-ended, unlinked}
+use Rattle.truncate.proofs.Ending.{ChainEnded, none-ended, same-size, precursor-link, level-ended, unlinked}
 use Rattle.truncate.proofs.end_links.Statement.{statement}
 use Rattle.truncate.proofs.end_links.Tie as tie
 
 abbrev Inv-loop : tie.InvT-loop
 Inv-loop w₀ m slots l₀ w l =
-    ((a n : ℕ) (p : NodeThere w₀ m a n) (ranks : List ℕ) → Before w₀ m a n slots ranks → Ended p (toColumn 0) (toColumn l) w) × (l ≤ m)
+    ((a n : ℕ) (p : NodeThere w₀ m a n) (ranks : List ℕ) → Before w₀ m a n slots ranks → ChainEnded p (toColumn 0) (toColumn l) w) × (l ≤ m)
 
 abbrev μ-loop : tie.MeasureT-loop
 μ-loop w₀ m slots l₀ w l = m - l
