@@ -5,7 +5,7 @@
    for each key. It has exactly SKA_WORDS(L, M, C) words. ska_set_up makes one; its words may be copied, stored and lent again
    elsewhere. A list is named by its number, 0 to L - 1. Keys stand in order, equal keys are allowed; the first key has index 0.
 
-   What a call on an arena does. It checks the whole arena (about 4.2 instructions for each word) and then acts. It answers 0
+   What a call on an arena does. It checks the whole arena (3 to 6 instructions for each word) and then acts. It answers 0
    where it is accepted, else the number of the refusal, the lowest that applies. A refusal changes no word of the arena, and every
    out-parameter is then 0; but with SKA_BEYOND *tally is the allowance. Words and numbers may be any. Every call ends.
 
