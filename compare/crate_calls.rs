@@ -1,7 +1,7 @@
 //! The crate behind the call script: reads calls on standard input, writes one answer line for each.
 //!
 //! Keys, indexes, places and tallies are the crate's: a tally is what its key walk compared. What the crate has no
-//! notion of is answered by document 01 beside it: list numbers, room, and the refusals. Where it can't know the answer
+//! notion of is answered by the order beside it: list numbers, room, and the refusals. Where it can't know the answer
 //! (words of the arena, arenas that were written by hand) it answers `-`; beside the `-` of a dump stand the keys and
 //! heights of its lists. Heights are those of the call; the crate's merging append draws new ones and is handed b's own;
 //! levelling is rebuilding with the heights of its rule.

@@ -1,4 +1,4 @@
-//! Lists of the crate, with document 01's rules for what it has no notion of: list numbers, room and the refusals.
+//! Lists of the crate, with the order's rules for what it has no notion of: list numbers, room and the refusals.
 
 use skiplist::comparator::OrdComparator;
 use skiplist::level_generator::geometric::Given;

@@ -1,4 +1,4 @@
-"""The arena of document 01: lists of nodes, their words by the column table, the check by its clauses, and the walk by key.
+"""The arena of the order: lists of nodes, their words by the column table, the check by its clauses, and the walk by key.
 
 Written from the document alone; paper.py answers the calls with it.
 """

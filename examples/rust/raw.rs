@@ -1,8 +1,6 @@
 //! The calls of include/ska.h as they are: a slice crosses as pointer and length.
 
-#![allow(dead_code)]
-
-unsafe extern "C" {
+extern "C" {
     pub fn ska_set_up(w: *mut u32, n: usize, lists: u32, levels: u32, nodes: u32) -> u32;
     pub fn ska_check(w: *const u32, n: usize) -> u32;
     pub fn ska_search(
