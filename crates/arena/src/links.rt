@@ -22,7 +22,7 @@ pub struct Link {
 
 impl Link {
     pub const ABSENT: Link = Link {
-        target: Slot(4294967295),
+        target: Slot::NONE,
         distance: 0,
     };
 
