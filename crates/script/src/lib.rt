@@ -10,6 +10,9 @@ ghost use Rattle.script.specs.Lines.{Within};
 ghost use Rattle.script.specs.Reads.{isDigit, isLetter, blank, lettered, digited, numbered, Stepped, Finished};
 ghost use Rattle.script.specs.Reads.{turned as turnedLine};
 
+// What separates words.
+const SPACE: u8 = b' ';
+
 // What has been read of a line: nothing, a name, a space, digits, a comment, or what is no item.
 pub enum Reading {
     Nothing,
@@ -143,7 +146,7 @@ pub fn step(line: Line, b: u8, numbers: &mut [u32]) -> Line
             }
         }
         Reading::Name => {
-            if b == b' ' {
+            if b == SPACE {
                 turned(line, Reading::Gap)
             } else {
                 letter(line, b)
@@ -151,7 +154,7 @@ pub fn step(line: Line, b: u8, numbers: &mut [u32]) -> Line
         }
         Reading::Gap => digit(line, b),
         Reading::Digits => {
-            if b == b' ' {
+            if b == SPACE {
                 number(line, numbers, Reading::Gap)
             } else {
                 digit(line, b)
