@@ -1,7 +1,6 @@
 // Reads a call script (docs/CALLS.md) on standard input and writes one answer line for each call.
-mod items;
+mod acts;
 mod lines;
-mod names;
 
 ghost use Prim.Native.Nat.{_≤_};
 ghost use lib.ListN.{length};
@@ -28,7 +27,7 @@ fn line_end(words: &mut [u32], numbers: &mut [u32], line: Line, len: usize) -> u
     match reading {
         Reading::Name => {
             let count = whole.count;
-            items::item(words, len, whole.name, &numbers[..count])
+            acts::item(words, len, whole.name, &numbers[..count])
         }
         Reading::Comment => len,
         _ => {

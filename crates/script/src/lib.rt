@@ -3,8 +3,15 @@ mod text;
 
 pub use text::Text;
 pub use text::unknown;
+ghost use mathlib.Core.Path.{_≡_};
 ghost use Prim.Native.Nat.{_≤_};
+ghost use lib.ListN.{length, set};
 ghost use Rattle.script.specs.Lines.{Within};
+ghost use Rattle.script.specs.Reads.{isDigit, isLetter, blank, lettered, digited, numbered, Stepped, Finished};
+ghost use Rattle.script.specs.Reads.{turned as turnedLine};
+
+// What separates words.
+const SPACE: u8 = b' ';
 
 // What has been read of a line: nothing, a name, a space, digits, a comment, or what is no item.
 pub enum Reading {
@@ -26,7 +33,7 @@ pub struct Line {
 
 impl Line {
     pub fn new() -> Line
-        ensures { λ r. ⌜ r .count ≤ 0 ⌝ }
+        ensures { λ r. ⌜ (r ≡ blank) × (r .count ≤ 0) ⌝ }
     {
         Line {
             reading: Reading::Nothing,
@@ -38,7 +45,7 @@ impl Line {
 }
 
 fn turned(line: Line, reading: Reading) -> Line
-    ensures { λ r. ⌜ r .count ≤ line .count ⌝ }
+    ensures { λ r. ⌜ r ≡ turnedLine reading line ⌝ }
 {
     Line {
         reading,
@@ -48,14 +55,18 @@ fn turned(line: Line, reading: Reading) -> Line
     }
 }
 
-fn is_digit(b: u8) -> bool {
+fn is_digit(b: u8) -> bool
+    ensures { λ r. ⌜ r ≡ isDigit b ⌝ }
+{
     if b < b'0' {
         return false;
     }
     b <= b'9'
 }
 
-fn is_letter(b: u8) -> bool {
+fn is_letter(b: u8) -> bool
+    ensures { λ r. ⌜ r ≡ isLetter b ⌝ }
+{
     if b < b'a' {
         return false;
     }
@@ -64,7 +75,7 @@ fn is_letter(b: u8) -> bool {
 
 // A name goes on: twelve letters at most.
 fn letter(line: Line, b: u8) -> Line
-    ensures { λ r. ⌜ r .count ≤ line .count ⌝ }
+    ensures { λ r. ⌜ r ≡ lettered line b ⌝ }
 {
     if !is_letter(b) {
         return turned(line, Reading::Spoilt);
@@ -82,12 +93,12 @@ fn letter(line: Line, b: u8) -> Line
 
 // A number goes on: 4294967295 at most.
 fn digit(line: Line, b: u8) -> Line
-    ensures { λ r. ⌜ r .count ≤ line .count ⌝ }
+    ensures { λ r. ⌜ r ≡ digited line b ⌝ }
 {
     if !is_digit(b) {
         return turned(line, Reading::Spoilt);
     }
-    let d = (b % 16) as u32;
+    let d = (b - b'0') as u32;
     if line.number > 429496729 {
         return turned(line, Reading::Spoilt);
     }
@@ -104,8 +115,8 @@ fn digit(line: Line, b: u8) -> Line
 
 // A number is done.
 fn number(line: Line, numbers: &mut [u32], then: Reading) -> Line
-    requires { ⌜ Within line (now numbers) ⌝ }
-    ensures { λ r. ⌜ Within r (now (numbers .exit)) ⌝ }
+    ensures { λ r. ⌜ r ≡ numbered line (length (now (numbers .entry))) then ⌝ }
+    ensures { λ _. ⌜ now (numbers .exit) ≡ set (now (numbers .entry)) (line .count) (line .number) ⌝ }
 {
     let at = line.count;
     if at < numbers.len() {
@@ -123,7 +134,7 @@ fn number(line: Line, numbers: &mut [u32], then: Reading) -> Line
 // The line with one byte more; b is no newline.
 pub fn step(line: Line, b: u8, numbers: &mut [u32]) -> Line
     requires { ⌜ Within line (now numbers) ⌝ }
-    ensures { λ r. ⌜ Within r (now (numbers .exit)) ⌝ }
+    ensures { λ r. ⌜ Stepped line b (now (numbers .entry)) r (now (numbers .exit)) ⌝ }
 {
     let reading = line.reading;
     match reading {
@@ -135,7 +146,7 @@ pub fn step(line: Line, b: u8, numbers: &mut [u32]) -> Line
             }
         }
         Reading::Name => {
-            if b == b' ' {
+            if b == SPACE {
                 turned(line, Reading::Gap)
             } else {
                 letter(line, b)
@@ -143,7 +154,7 @@ pub fn step(line: Line, b: u8, numbers: &mut [u32]) -> Line
         }
         Reading::Gap => digit(line, b),
         Reading::Digits => {
-            if b == b' ' {
+            if b == SPACE {
                 number(line, numbers, Reading::Gap)
             } else {
                 digit(line, b)
@@ -157,7 +168,7 @@ pub fn step(line: Line, b: u8, numbers: &mut [u32]) -> Line
 // The line at its end: `Name` if it has the form of an item, a comment, or spoilt.
 pub fn finish(line: Line, numbers: &mut [u32]) -> Line
     requires { ⌜ Within line (now numbers) ⌝ }
-    ensures { λ r. ⌜ Within r (now (numbers .exit)) ⌝ }
+    ensures { λ r. ⌜ Finished line (now (numbers .entry)) r (now (numbers .exit)) ⌝ }
 {
     let reading = line.reading;
     match reading {

@@ -1,4 +1,8 @@
 // A short line of answers, made in place and written at once.
+ghost use mathlib.Core.List.{[], _∷_};
+ghost use mathlib.Core.Path.{_≡_};
+ghost use Rattle.script.specs.Texts.{written, Grown, GrownByDecimal};
+
 fn print_front(bytes: &[u8; 96], len: usize) {
     let all: &[u8] = bytes;
     if len <= all.len() {
@@ -17,7 +21,9 @@ pub fn unknown() {
 }
 
 impl Text {
-    pub fn new() -> Text {
+    pub fn new() -> Text
+        ensures { λ r. ⌜ written r ≡ [] ⌝ }
+    {
         Text {
             bytes: [0; 96],
             len: 0,
@@ -25,7 +31,9 @@ impl Text {
     }
 
     // One byte more; a full line takes none.
-    pub fn byte(self, b: u8) -> Text {
+    pub fn byte(self, b: u8) -> Text
+        ensures { λ r. ⌜ Grown self (b ∷ []) r ⌝ }
+    {
         let mut t = self;
         let at = t.len;
         if at < 96 {
@@ -35,17 +43,25 @@ impl Text {
         t
     }
 
-    // n in decimal digits.
-    pub fn decimal(self, n: u32) -> Text {
-        let mut digits = [0u8; 20];
-        let k = io::decimal(n as u64, &mut digits);
+    fn bytes(self, more: &[u8]) -> Text
+        ensures { λ r. ⌜ Grown self (now (more .entry)) r ⌝ }
+    {
         let mut t = self;
-        for i in 0..20 {
-            if i < k {
-                t = t.byte(digits[i]);
-            }
+        let mut i: usize = 0;
+        while i < more.len() {
+            t = t.byte(more[i]);
+            i += 1;
         }
         t
+    }
+
+    // n in decimal digits.
+    pub fn decimal(self, n: u32) -> Text
+        ensures { λ r. ⌜ GrownByDecimal self n r ⌝ }
+    {
+        let mut digits = [0u8; 20];
+        let k = io::decimal(n as u64, &mut digits);
+        self.bytes(&digits[..k])
     }
 
     pub fn print(self) {

@@ -1,14 +1,16 @@
--- `lent::copy` is safe: the slice keeps its length, and the numbers are no more.
-use Prim.Native.Nat.{_-_}
+-- `lent::copy` meets its contract: word by word the front is the new one, the slice keeps its length, and the numbers are no more.
+use Prim.Native.Nat.{_-_, _≤_}
+use mathlib.Core.List.{_++_}
 use mathlib.Core.Path.{_≡_}
-use lib.ListN.{length, length-set}
+use lib.ListN.{length, length-set, take, drop}
 use borrow.Author.Needs.{needs}
 use native.Mathlib.Omega.{arith}
+use Rattle.lent.proofs.FrontLaws.{next-word, all-words}
 use Rattle.lent.proofs.copy.Statement.{statement}
 use Rattle.lent.proofs.copy.Tie as tie
 
 abbrev Inv-loop : tie.InvT-loop
-Inv-loop words₀ numbers i₀ words i = length words ≡ length words₀
+Inv-loop words₀ numbers i₀ words i = (i ≤ length numbers) × (length words ≡ length words₀) × (words ≡ take i numbers ++ drop i words₀)
 
 abbrev μ-loop : tie.MeasureT-loop
 μ-loop words₀ numbers i₀ words i = length numbers - i
@@ -35,13 +37,30 @@ loop-less : tie.Need-loop-less Inv-loop μ-loop
 loop-less c = search needs
 
 loop-again : tie.Need-loop-again Inv-loop μ-loop
-loop-again c = simp length-set (omega arith)
+loop-again c =
+    let start : tie.Start Inv-loop μ-loop = search in
+    let at : tie.At-loop Inv-loop μ-loop = search in
+    let test : tie.In-loop Inv-loop μ-loop = search in (
+      search needs,
+      simp length-set (search needs),
+      next-word
+          (start .args .words .now)
+          (start .args .numbers .now)
+          (at .loop .words)
+          (at .loop .i)
+          (test .loop-test .taken)
+          (start .pre)
+          (at .loop .inv .2),
+    )
 
 same-length : tie.Need-same-length Inv-loop μ-loop
 same-length c = search needs
 
 returns : tie.Need-returns Inv-loop μ-loop
-returns c = search needs
+returns c =
+    let start : tie.Start Inv-loop μ-loop = search in
+    let at : tie.At-loop Inv-loop μ-loop = search in
+    all-words (start .args .words .now) (start .args .numbers .now) (at .loop .words) (at .loop .i) (omega arith) (at .loop .inv .2)
 
 pub copy-spec : {M : Type 1} → statement M
 copy-spec =

@@ -1,7 +1,9 @@
--- `script::number` meets its contract: a number is put where the count says, if that lies in the slice.
+-- `script::number` meets its contract: the number is put where the count says, if that lies in the slice.
+use lib.ListN.{length}
+use lib.Seq.{set-out}
+use mathlib.Core.Path.{sym, refl}
+use Rattle.script.proofs.ByteLaws.{number-in, number-past}
 use borrow.Author.Needs.{needs}
-use native.Mathlib.Omega.{arith}
-use lib.ListN.{length-set}
 use Rattle.script.proofs.number.Statement.{statement}
 use Rattle.script.proofs.number.Tie as tie
 
@@ -18,13 +20,17 @@ same-length : tie.Need-same-length
 same-length c = search needs
 
 returns : tie.Need-returns
-returns c = record { count = simp length-set (omega arith) }
+returns c =
+    let (start, fits) : tie.Start × tie.Then1 = search in
+    (cc (number-in (start .args .line) _ (start .args .then) (fits .if1 .taken)), refl)
 
 turned-requires : tie.Need-turned-requires
 turned-requires c κs = search needs
 
 returns-2 : tie.Need-returns-2
-returns-2 c = search needs
+returns-2 c =
+    let (start, full) : tie.Start × tie.Else1 = search in
+    (cc (number-past (start .args .line) _ (start .args .then) (full .if1 .left)), sym (set-out _ _ _ (full .if1 .left)))
 
 pub number-spec : {M : Type 1} → statement M
 number-spec =

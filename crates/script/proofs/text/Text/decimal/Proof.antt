@@ -1,50 +1,31 @@
--- `script::text::Text::decimal` is safe: it goes over the twenty places that a number can take.
-use Prim.Native.Nat.{_≤_, _-_}
+-- `script::text::Text::decimal` meets its contract: the text grows by the digits that `io::decimal` spells.
 use borrow.Author.Needs.{needs}
 use Rattle.script.proofs.text.Text.decimal.Statement.{statement}
 use Rattle.script.proofs.text.Text.decimal.Tie as tie
 
-abbrev Inv-loop : tie.InvT-loop
-Inv-loop n digits k t₀ i₀ t i = i ≤ 20
-
-abbrev μ-loop : tie.MeasureT-loop
-μ-loop n digits k t₀ i₀ t i = 20 - i
-
-decimal-requires : tie.Need-decimal-requires Inv-loop μ-loop
+decimal-requires : tie.Need-decimal-requires
 decimal-requires c κs = search needs
 
-loop-holds : tie.Need-loop-holds Inv-loop μ-loop
-loop-holds c = search needs
+array-share-prefix-digits : tie.Need-array-share-prefix-digits
+array-share-prefix-digits c = search needs
 
-array-read-byte : tie.Need-array-read-byte Inv-loop μ-loop
-array-read-byte c = search needs
+slice-aggregate-bytes : tie.Need-slice-aggregate-bytes
+slice-aggregate-bytes c = search needs
 
-byte-requires : tie.Need-byte-requires Inv-loop μ-loop
-byte-requires c κs = search needs
+bytes-requires : tie.Need-bytes-requires
+bytes-requires c κs = search needs
 
-add-i : tie.Need-add-i Inv-loop μ-loop
-add-i c = search needs
-
-loop-less : tie.Need-loop-less Inv-loop μ-loop
-loop-less c = search needs
-
-loop-again : tie.Need-loop-again Inv-loop μ-loop
-loop-again c = search needs
-
-returns : tie.Need-returns Inv-loop μ-loop
-returns c = search needs
+returns : tie.Need-returns
+returns c =
+    let spelt : tie.After-decimal = search in
+    record { places = spelt .decimal .result; fewest = spelt .decimal .ensures .1 .0; grown = rw (spelt .decimal .ensures .1 .1) at (c .bytes .ensures) }
 
 pub decimal-spec : {M : Type 1} → statement M
 decimal-spec =
     tie.close
     (tie.spec
-    Inv-loop
-    μ-loop
     decimal-requires
-    loop-holds
-    array-read-byte
-    byte-requires
-    add-i
-    loop-less
-    loop-again
+    array-share-prefix-digits
+    slice-aggregate-bytes
+    bytes-requires
     returns)

@@ -1,0 +1,16 @@
+-- `script::is_digit` meets its contract, by the two tests.
+use borrow.Author.Tests.{lt-ltb, le-ltb}
+use Rattle.script.specs.Reads.{isDigit}
+use Rattle.script.proofs.is_digit.Statement.{statement}
+use Rattle.script.proofs.is_digit.Tie as tie
+
+returns : tie.Need-returns
+unfolding isDigit
+returns c = simp (lt-ltb _ _ (c .if1 .taken))
+
+returns-2 : tie.Need-returns-2
+unfolding isDigit
+returns-2 c = simp (le-ltb _ _ (c .if1 .left))
+
+pub is-digit-spec : {M : Type 1} → statement M
+is-digit-spec = tie.close (tie.spec returns returns-2)
