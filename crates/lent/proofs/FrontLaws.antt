@@ -1,7 +1,7 @@
 -- The front of a slice, word by word. Rests on Fronts.
 use Prim.Native.Nat.{ℕ, zero, suc, _+_, _≤_, _<_}
 use mathlib.Core.Bool.{Bool, true, false}
-use mathlib.Core.List.{List, [], _∷_, _++_}
+use mathlib.Core.List.{List, _∷_, _++_}
 use mathlib.Core.Path.{_≡_, refl, ap, _∙_}
 use lib.ListN.{length, take, drop, set, getD, replicate, length-replicate, getD-replicate}
 use lib.Seq.{take-all}

@@ -1,9 +1,9 @@
 -- What the bytes of a line read as (docs/CALLS.md): "Words are separated by single spaces", "Numbers are decimal, 0 to 4294967295", "A line that
 -- begins with `#` is a comment." Each byte is told by its ASCII code. Rests on Lines.
 use Prim.Native.Nat.{ℕ, _+_, _-_, _*_, _%_}
-use mathlib.Core.Bool.{Bool, true, false, cond}
+use mathlib.Core.Bool.{Bool, false, cond}
 use mathlib.Core.Path.{_≡_}
-use mathlib.Core.List.{List, [], _∷_}
+use mathlib.Core.List.{List}
 use lib.Dec.{ltb, leb, eqb}
 use lib.ListN.{length, set}
 use Rattle.script.specs.declared.Reading.{Reading}

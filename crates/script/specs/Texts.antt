@@ -1,6 +1,6 @@
 -- A line of answers as it grows: at most 96 bytes, the rest is dropped. Rests on io's digits of a number.
 use Prim.Native.Nat.{ℕ}
-use mathlib.Core.List.{List, [], _∷_, _++_}
+use mathlib.Core.List.{List, _++_}
 use mathlib.Core.Path.{_≡_}
 use lib.ListN.{take}
 use Rattle.io.specs.Digits.{digits, Fewest}

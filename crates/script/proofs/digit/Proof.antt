@@ -1,9 +1,6 @@
 -- `script::digit` meets its contract: one digit more, or spoilt.
-use mathlib.Core.Bool.{true}
-use mathlib.Core.Path.{_≡_}
 use borrow.Author.Tests.{not-true, not-false}
 use native.Mathlib.Omega.{arith}
-use Rattle.script.specs.Reads.{isDigit}
 use Rattle.script.proofs.ByteLaws.{no-digit, digit-from-48, number-too-big, digit-more}
 use borrow.Author.Needs.{needs}
 use Rattle.script.proofs.digit.Statement.{statement}

@@ -1,5 +1,4 @@
 -- `script::number` meets its contract: the number is put where the count says, if that lies in the slice.
-use lib.ListN.{length}
 use lib.Seq.{set-out}
 use mathlib.Core.Path.{sym, refl}
 use Rattle.script.proofs.ByteLaws.{number-in, number-past}
