@@ -3,6 +3,8 @@ mod acts;
 mod lines;
 
 ghost use Prim.Native.Nat.{_≤_};
+ghost use mathlib.Core.Bool.{true};
+ghost use mathlib.Core.Path.{_≡_};
 ghost use lib.ListN.{length};
 ghost use Rattle.script.specs.Lines.{Within};
 ghost use Rattle.calls.specs.Desks.{Ready};
@@ -105,22 +107,31 @@ fn turn(words: &mut [u32], numbers: &mut [u32], desk: Desk) -> Desk
     feed(words, numbers, desk, &buffer[..n])
 }
 
-// A proved loop has to end, and nothing says that the input does: the turns count down from a number that no run uses up.
-fn run(words: &mut [u32], numbers: &mut [u32]) {
+// The input is still open, and the turns that were taken.
+pub struct Ran {
+    pub open: bool,
+    pub turns: u64,
+}
+
+// A proved loop has to end, and nothing says that the input does: the turns count up to a number that no run reaches.
+fn run(words: &mut [u32], numbers: &mut [u32]) -> Ran
+    ensures { λ r. ⌜ (r .open ≡ true → r .turns ≡ 18446744073709551615) ⌝ }
+{
     let blank = Line::new();
     let mut desk = Desk {
         line: blank,
         len: 0,
         open: true,
     };
-    let mut turns = u64::MAX;
-    while turns > 0 {
+    let mut turns: u64 = 0;
+    while turns < u64::MAX {
         desk = turn(words, numbers, desk);
+        turns += 1;
         if !desk.open {
-            return;
+            return Ran { open: false, turns };
         }
-        turns -= 1;
     }
+    Ran { open: true, turns }
 }
 
 fn main() {

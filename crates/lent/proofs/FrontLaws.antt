@@ -9,7 +9,11 @@ use native.Mathlib.Numerals.{add-one}
 use native.Mathlib.Omega.{arith}
 use Rattle.lent.specs.Fronts.{over, Relent}
 
-set-next : (front words : List ℕ) (i : ℕ) → i < length front → i < length words → set (take i front ++ drop i words) i (getD front i 0) ≡ take (suc i) front ++ drop (suc i) words
+set-next :
+    (front words : List ℕ) (i : ℕ)
+    → i < length front
+    → i < length words
+    → set (take i front ++ drop i words) i (getD front i 0) ≡ take (suc i) front ++ drop (suc i) words
 set-next (f ∷ front) (w ∷ words) zero p q = refl
 set-next (f ∷ front) (w ∷ words) (suc i) p q = ap (λ (r : List ℕ). f ∷ r) (set-next front words i (omega arith) (omega arith))
 

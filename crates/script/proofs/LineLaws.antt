@@ -46,7 +46,10 @@ numbered-count : (line : Line) (n : ℕ) (then : Reading) → line .count ≤ n 
 unfolding numbered
 numbered-count line n then h = by-room (ltb (line .count) n) refl
   where
-    by-room : (t : Bool) → ltb (line .count) n ≡ t → cond t (record { reading = then; name = line .name; number = 0; count = line .count + 1 }) (turned Spoilt line) .count ≤ n
+    by-room :
+        (t : Bool)
+        → ltb (line .count) n ≡ t
+        → cond t (record { reading = then; name = line .name; number = 0; count = line .count + 1 }) (turned Spoilt line) .count ≤ n
     by-room true e = let fits : line .count < n = ltb-true _ _ e in omega arith
     by-room false e = h
 

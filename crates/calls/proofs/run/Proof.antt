@@ -1,16 +1,19 @@
--- `calls::run` is safe and ends: the desk is ready before each turn, and the turns that are left are the measure.
+-- `calls::run` meets its contract and ends: the desk is ready before each turn, and the turns that are left are the measure.
+use Prim.Native.Nat.{ℕ, _-_, _≤_}
 use mathlib.Core.Path.{_≡_}
 use lib.ListN.{length}
-use Rattle.calls.specs.Desks.{Ready}
+use native.Mathlib.Omega.{arith}
 use borrow.Author.Needs.{needs}
+use Rattle.calls.specs.Desks.{Ready}
 use Rattle.calls.proofs.run.Statement.{statement}
 use Rattle.calls.proofs.run.Tie as tie
 
 abbrev Inv-loop : tie.InvT-loop
-Inv-loop words₀ numbers₀ desk₀ turns₀ words numbers desk turns = Ready desk words numbers × (length words ≡ length words₀) × (length numbers ≡ length numbers₀)
+Inv-loop words₀ numbers₀ desk₀ turns₀ words numbers desk turns =
+    Ready desk words numbers × (length words ≡ length words₀) × (length numbers ≡ length numbers₀) × (turns ≤ 18446744073709551615)
 
 abbrev μ-loop : tie.MeasureT-loop
-μ-loop words₀ numbers₀ desk₀ turns₀ words numbers desk turns = turns
+μ-loop words₀ numbers₀ desk₀ turns₀ words numbers desk turns = 18446744073709551615 - turns
 
 new-requires : tie.Need-new-requires Inv-loop μ-loop
 new-requires c κs = search needs
@@ -21,6 +24,9 @@ loop-holds c = search needs
 turn-requires : tie.Need-turn-requires Inv-loop μ-loop
 turn-requires c κs = search needs
 
+add-turns : tie.Need-add-turns Inv-loop μ-loop
+add-turns c = search needs
+
 same-length : tie.Need-same-length Inv-loop μ-loop
 same-length c = search needs
 
@@ -28,10 +34,7 @@ same-length-2 : tie.Need-same-length-2 Inv-loop μ-loop
 same-length-2 c = search needs
 
 returns : tie.Need-returns Inv-loop μ-loop
-returns c = search needs
-
-sub-turns : tie.Need-sub-turns Inv-loop μ-loop
-sub-turns c = search needs
+returns c = λ e. let z : _≡_ {A = ℕ} 0 1 = cc in omega arith
 
 loop-less : tie.Need-loop-less Inv-loop μ-loop
 loop-less c = search needs
@@ -46,7 +49,7 @@ same-length-4 : tie.Need-same-length-4 Inv-loop μ-loop
 same-length-4 c = search needs
 
 returns-2 : tie.Need-returns-2 Inv-loop μ-loop
-returns-2 c = search needs
+returns-2 c = λ e. search needs
 
 pub run-spec : {M : Type 1} → statement M
 run-spec =
@@ -57,10 +60,10 @@ run-spec =
     new-requires
     loop-holds
     turn-requires
+    add-turns
     same-length
     same-length-2
     returns
-    sub-turns
     loop-less
     loop-again
     same-length-3

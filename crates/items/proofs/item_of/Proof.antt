@@ -33,7 +33,11 @@ returns-4 : tie.Need-returns-4
 unfolding itemOf
 returns-4 c =
     let (other, past0, here) : tie.Else1 × tie.Else3 × tie.Then4 = search in
-    simp (ne-eqb _ _ (other .if1 .left), ne-eqb _ _ (past0 .if3 .left), eq-eqb _ _ (here .if4 .taken)) (c .with-one .ensures)
+    simp (
+      ne-eqb _ _ (other .if1 .left),
+      ne-eqb _ _ (past0 .if3 .left),
+      eq-eqb _ _ (here .if4 .taken),
+    ) (c .with-one .ensures)
 
 with-two-requires : tie.Need-with-two-requires
 with-two-requires c κs = search needs
@@ -42,7 +46,12 @@ returns-5 : tie.Need-returns-5
 unfolding itemOf
 returns-5 c =
     let (other, past0, past1, here) : tie.Else1 × tie.Else3 × tie.Else4 × tie.Then5 = search in
-    simp (ne-eqb _ _ (other .if1 .left), ne-eqb _ _ (past0 .if3 .left), ne-eqb _ _ (past1 .if4 .left), eq-eqb _ _ (here .if5 .taken)) (c .with-two .ensures)
+    simp (
+      ne-eqb _ _ (other .if1 .left),
+      ne-eqb _ _ (past0 .if3 .left),
+      ne-eqb _ _ (past1 .if4 .left),
+      eq-eqb _ _ (here .if5 .taken),
+    ) (c .with-two .ensures)
 
 with-three-requires : tie.Need-with-three-requires
 with-three-requires c κs = search needs
@@ -51,13 +60,25 @@ returns-6 : tie.Need-returns-6
 unfolding itemOf
 returns-6 c =
     let (other, past0, past1, past2, here) : tie.Else1 × tie.Else3 × tie.Else4 × tie.Else5 × tie.Then6 = search in
-    simp (ne-eqb _ _ (other .if1 .left), ne-eqb _ _ (past0 .if3 .left), ne-eqb _ _ (past1 .if4 .left), ne-eqb _ _ (past2 .if5 .left), eq-eqb _ _ (here .if6 .taken)) (c .with-three .ensures)
+    simp (
+      ne-eqb _ _ (other .if1 .left),
+      ne-eqb _ _ (past0 .if3 .left),
+      ne-eqb _ _ (past1 .if4 .left),
+      ne-eqb _ _ (past2 .if5 .left),
+      eq-eqb _ _ (here .if6 .taken),
+    ) (c .with-three .ensures)
 
 returns-7 : tie.Need-returns-7
 unfolding itemOf
 returns-7 c =
     let (other, past0, past1, past2, past3) : tie.Else1 × tie.Else3 × tie.Else4 × tie.Else5 × tie.Else6 = search in
-    simp (ne-eqb _ _ (other .if1 .left), ne-eqb _ _ (past0 .if3 .left), ne-eqb _ _ (past1 .if4 .left), ne-eqb _ _ (past2 .if5 .left), ne-eqb _ _ (past3 .if6 .left))
+    simp (
+      ne-eqb _ _ (other .if1 .left),
+      ne-eqb _ _ (past0 .if3 .left),
+      ne-eqb _ _ (past1 .if4 .left),
+      ne-eqb _ _ (past2 .if5 .left),
+      ne-eqb _ _ (past3 .if6 .left),
+    )
 
 pub item-of-spec : {M : Type 1} → statement M
 item-of-spec =

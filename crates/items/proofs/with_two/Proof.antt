@@ -21,27 +21,61 @@ returns-3 c =
 returns-4 : tie.Need-returns-4
 returns-4 c =
     let (before1, before2, before3, here) : tie.Else1 × tie.Else2 × tie.Else3 × tie.Then4 = search in
-    simp (ne-eqb _ _ (before1 .if1 .left), ne-eqb _ _ (before2 .if2 .left), ne-eqb _ _ (before3 .if3 .left), eq-eqb _ _ (here .if4 .taken))
+    simp (
+      ne-eqb _ _ (before1 .if1 .left),
+      ne-eqb _ _ (before2 .if2 .left),
+      ne-eqb _ _ (before3 .if3 .left),
+      eq-eqb _ _ (here .if4 .taken),
+    )
 
 returns-5 : tie.Need-returns-5
 returns-5 c =
     let (before1, before2, before3, before4, here) : tie.Else1 × tie.Else2 × tie.Else3 × tie.Else4 × tie.Then5 = search in
-    simp (ne-eqb _ _ (before1 .if1 .left), ne-eqb _ _ (before2 .if2 .left), ne-eqb _ _ (before3 .if3 .left), ne-eqb _ _ (before4 .if4 .left), eq-eqb _ _ (here .if5 .taken))
+    simp (
+      ne-eqb _ _ (before1 .if1 .left),
+      ne-eqb _ _ (before2 .if2 .left),
+      ne-eqb _ _ (before3 .if3 .left),
+      ne-eqb _ _ (before4 .if4 .left),
+      eq-eqb _ _ (here .if5 .taken),
+    )
 
 returns-6 : tie.Need-returns-6
 returns-6 c =
     let (before1, before2, before3, before4, before5, here) : tie.Else1 × tie.Else2 × tie.Else3 × tie.Else4 × tie.Else5 × tie.Then6 = search in
-    simp (ne-eqb _ _ (before1 .if1 .left), ne-eqb _ _ (before2 .if2 .left), ne-eqb _ _ (before3 .if3 .left), ne-eqb _ _ (before4 .if4 .left), ne-eqb _ _ (before5 .if5 .left), eq-eqb _ _ (here .if6 .taken))
+    simp (
+      ne-eqb _ _ (before1 .if1 .left),
+      ne-eqb _ _ (before2 .if2 .left),
+      ne-eqb _ _ (before3 .if3 .left),
+      ne-eqb _ _ (before4 .if4 .left),
+      ne-eqb _ _ (before5 .if5 .left),
+      eq-eqb _ _ (here .if6 .taken),
+    )
 
 returns-7 : tie.Need-returns-7
 returns-7 c =
     let (before1, before2, before3, before4, before5, before6, here) : tie.Else1 × tie.Else2 × tie.Else3 × tie.Else4 × tie.Else5 × tie.Else6 × tie.Then7 = search in
-    simp (ne-eqb _ _ (before1 .if1 .left), ne-eqb _ _ (before2 .if2 .left), ne-eqb _ _ (before3 .if3 .left), ne-eqb _ _ (before4 .if4 .left), ne-eqb _ _ (before5 .if5 .left), ne-eqb _ _ (before6 .if6 .left), eq-eqb _ _ (here .if7 .taken))
+    simp (
+      ne-eqb _ _ (before1 .if1 .left),
+      ne-eqb _ _ (before2 .if2 .left),
+      ne-eqb _ _ (before3 .if3 .left),
+      ne-eqb _ _ (before4 .if4 .left),
+      ne-eqb _ _ (before5 .if5 .left),
+      ne-eqb _ _ (before6 .if6 .left),
+      eq-eqb _ _ (here .if7 .taken),
+    )
 
 returns-8 : tie.Need-returns-8
 returns-8 c =
     let (before1, before2, before3, before4, before5, before6, before7) : tie.Else1 × tie.Else2 × tie.Else3 × tie.Else4 × tie.Else5 × tie.Else6 × tie.Else7 = search in
-    simp (ne-eqb _ _ (before1 .if1 .left), ne-eqb _ _ (before2 .if2 .left), ne-eqb _ _ (before3 .if3 .left), ne-eqb _ _ (before4 .if4 .left), ne-eqb _ _ (before5 .if5 .left), ne-eqb _ _ (before6 .if6 .left), ne-eqb _ _ (before7 .if7 .left))
+    simp (
+      ne-eqb _ _ (before1 .if1 .left),
+      ne-eqb _ _ (before2 .if2 .left),
+      ne-eqb _ _ (before3 .if3 .left),
+      ne-eqb _ _ (before4 .if4 .left),
+      ne-eqb _ _ (before5 .if5 .left),
+      ne-eqb _ _ (before6 .if6 .left),
+      ne-eqb _ _ (before7 .if7 .left),
+    )
 
 pub with-two-spec : {M : Type 1} → statement M
 with-two-spec = tie.close (tie.spec returns returns-2 returns-3 returns-4 returns-5 returns-6 returns-7 returns-8)
