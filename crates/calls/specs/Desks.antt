@@ -2,7 +2,7 @@
 use Prim.Native.Nat.{ℕ, _≤_}
 use mathlib.Core.List.{List}
 use lib.ListN.{length}
-use Rattle.script.specs.Lines.{Within}
+use Rattle.script_line.specs.Lines.{Within}
 use Rattle.calls.specs.declared.Desk.{Desk}
 
 pub record Ready (desk : Desk) (words numbers : List ℕ) : Type 0 where

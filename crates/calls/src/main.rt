@@ -6,10 +6,10 @@ ghost use Prim.Native.Nat.{_≤_};
 ghost use mathlib.Core.Bool.{true};
 ghost use mathlib.Core.Path.{_≡_};
 ghost use lib.ListN.{length};
-ghost use Rattle.script.specs.Lines.{Within};
+ghost use Rattle.script_line.specs.Lines.{Within};
 ghost use Rattle.calls.specs.Desks.{Ready};
-use script::Line;
-use script::Reading;
+use script_line::Line;
+use script_line::Reading;
 
 // The line that is being read, how many words are lent, and whether the input may go on.
 pub struct Desk {
@@ -24,7 +24,7 @@ fn line_end(words: &mut [u32], numbers: &mut [u32], line: Line, len: usize) -> u
     requires { ⌜ Within line (now numbers) ⌝ }
     ensures { λ r. ⌜ r ≤ length (now (words .exit)) ⌝ }
 {
-    let whole = script::finish(line, numbers);
+    let whole = script_line::finish(line, numbers);
     let reading = whole.reading;
     match reading {
         Reading::Name => {
@@ -53,7 +53,7 @@ fn byte(words: &mut [u32], numbers: &mut [u32], desk: Desk, b: u8) -> Desk
             open: true,
         };
     }
-    let longer = script::step(line, b, numbers);
+    let longer = script_line::step(line, b, numbers);
     Desk {
         line: longer,
         len: desk.len,

@@ -1,3 +1,1 @@
-pub mod ByteLaws
-pub mod LineLaws
 pub mod TextLaws

@@ -1,10 +1,10 @@
--- `script::digit` meets its contract: one digit more, or spoilt.
+-- `script_line::digit` meets its contract: one digit more, or spoilt.
 use borrow.Author.Tests.{not-true, not-false}
 use native.Mathlib.Omega.{arith}
-use Rattle.script.proofs.ByteLaws.{no-digit, digit-from-48, number-too-big, digit-more}
+use Rattle.script_line.proofs.ByteLaws.{no-digit, digit-from-48, number-too-big, digit-more}
 use borrow.Author.Needs.{needs}
-use Rattle.script.proofs.digit.Statement.{statement}
-use Rattle.script.proofs.digit.Tie as tie
+use Rattle.script_line.proofs.digit.Statement.{statement}
+use Rattle.script_line.proofs.digit.Tie as tie
 
 is-digit-requires : tie.Need-is-digit-requires
 is-digit-requires c κs = search needs

@@ -1,8 +1,8 @@
--- `script::is_digit` meets its contract, by the two tests.
+-- `script_line::is_digit` meets its contract, by the two tests.
 use borrow.Author.Tests.{lt-ltb, le-ltb}
-use Rattle.script.specs.Reads.{isDigit}
-use Rattle.script.proofs.is_digit.Statement.{statement}
-use Rattle.script.proofs.is_digit.Tie as tie
+use Rattle.script_line.specs.Reads.{isDigit}
+use Rattle.script_line.proofs.is_digit.Statement.{statement}
+use Rattle.script_line.proofs.is_digit.Tie as tie
 
 returns : tie.Need-returns
 unfolding isDigit

@@ -1,9 +1,9 @@
--- `script::letter` meets its contract: one letter more, or spoilt.
+-- `script_line::letter` meets its contract: one letter more, or spoilt.
 use borrow.Author.Tests.{not-true, not-false}
-use Rattle.script.proofs.ByteLaws.{no-letter, letter-too-many, letter-more}
+use Rattle.script_line.proofs.ByteLaws.{no-letter, letter-too-many, letter-more}
 use borrow.Author.Needs.{needs}
-use Rattle.script.proofs.letter.Statement.{statement}
-use Rattle.script.proofs.letter.Tie as tie
+use Rattle.script_line.proofs.letter.Statement.{statement}
+use Rattle.script_line.proofs.letter.Tie as tie
 
 is-letter-requires : tie.Need-is-letter-requires
 is-letter-requires c κs = search needs

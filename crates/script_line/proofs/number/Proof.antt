@@ -1,10 +1,10 @@
--- `script::number` meets its contract: the number is put where the count says, if that lies in the slice.
+-- `script_line::number` meets its contract: the number is put where the count says, if that lies in the slice.
 use lib.Seq.{set-out}
 use mathlib.Core.Path.{sym, refl}
-use Rattle.script.proofs.ByteLaws.{number-in, number-past}
+use Rattle.script_line.proofs.ByteLaws.{number-in, number-past}
 use borrow.Author.Needs.{needs}
-use Rattle.script.proofs.number.Statement.{statement}
-use Rattle.script.proofs.number.Tie as tie
+use Rattle.script_line.proofs.number.Statement.{statement}
+use Rattle.script_line.proofs.number.Tie as tie
 
 mul-numbers : tie.Need-mul-numbers
 mul-numbers c = search needs

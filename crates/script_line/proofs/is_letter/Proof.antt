@@ -1,8 +1,8 @@
--- `script::is_letter` meets its contract, by the two tests.
+-- `script_line::is_letter` meets its contract, by the two tests.
 use borrow.Author.Tests.{lt-ltb, le-ltb}
-use Rattle.script.specs.Reads.{isLetter}
-use Rattle.script.proofs.is_letter.Statement.{statement}
-use Rattle.script.proofs.is_letter.Tie as tie
+use Rattle.script_line.specs.Reads.{isLetter}
+use Rattle.script_line.proofs.is_letter.Statement.{statement}
+use Rattle.script_line.proofs.is_letter.Tie as tie
 
 returns : tie.Need-returns
 unfolding isLetter

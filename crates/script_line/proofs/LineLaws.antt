@@ -7,11 +7,11 @@ use lib.Dec.{ltb, leb}
 use lib.ListN.{length, set, length-set}
 use borrow.Author.Tests.{eq-eqb, ne-eqb, ltb-true}
 use native.Mathlib.Omega.{arith}
-use Rattle.script.specs.declared.Reading.{Reading}
-use Rattle.script.specs.declared.Reading.the-variants.{Nothing, Name, Gap, Digits, Comment, Spoilt}
-use Rattle.script.specs.declared.Line.{Line}
-use Rattle.script.specs.Lines.{Within}
-use Rattle.script.specs.Reads.{isDigit, isLetter, turned, lettered, digited, numbered, stepped, kept, finished, Stepped, Finished}
+use Rattle.script_line.specs.declared.Reading.{Reading}
+use Rattle.script_line.specs.declared.Reading.the-variants.{Nothing, Name, Gap, Digits, Comment, Spoilt}
+use Rattle.script_line.specs.declared.Line.{Line}
+use Rattle.script_line.specs.Lines.{Within}
+use Rattle.script_line.specs.Reads.{isDigit, isLetter, turned, lettered, digited, numbered, stepped, kept, finished, Stepped, Finished}
 
 count-either : (n : ℕ) (t u : Bool) (x y : Line) → x .count ≤ n → y .count ≤ n → cond t (cond u x y) y .count ≤ n
 count-either n true true x y p q = p

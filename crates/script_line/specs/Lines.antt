@@ -2,7 +2,7 @@
 use Prim.Native.Nat.{ℕ, _≤_}
 use mathlib.Core.List.{List}
 use lib.ListN.{length}
-use Rattle.script.specs.declared.Line.{Line}
+use Rattle.script_line.specs.declared.Line.{Line}
 
 pub record Within (line : Line) (numbers : List ℕ) : Type 0 where
   pub count : line .count ≤ length numbers

@@ -5,10 +5,10 @@ use mathlib.Core.Path.{_≡_, refl}
 use lib.Dec.{ltb, leb}
 use borrow.Author.Tests.{lt-ltb, le-ltb, le-leb, lt-leb, leb-true, ltb-false}
 use native.Mathlib.Omega.{arith}
-use Rattle.script.specs.declared.Reading.{Reading}
-use Rattle.script.specs.declared.Reading.the-variants.{Name, Digits, Spoilt}
-use Rattle.script.specs.declared.Line.{Line}
-use Rattle.script.specs.Reads.{isDigit, isLetter, turned, lettered, digited, numbered}
+use Rattle.script_line.specs.declared.Reading.{Reading}
+use Rattle.script_line.specs.declared.Reading.the-variants.{Name, Digits, Spoilt}
+use Rattle.script_line.specs.declared.Line.{Line}
+use Rattle.script_line.specs.Reads.{isDigit, isLetter, turned, lettered, digited, numbered}
 
 module _ (line : Line) (b : ℕ) where
   pub no-letter : isLetter b ≡ false → lettered line b ≡ turned Spoilt line

@@ -6,10 +6,10 @@ use mathlib.Core.Path.{_≡_}
 use mathlib.Core.List.{List}
 use lib.Dec.{ltb, leb, eqb}
 use lib.ListN.{length, set}
-use Rattle.script.specs.declared.Reading.{Reading}
-use Rattle.script.specs.declared.Reading.the-variants.{Nothing, Name, Gap, Digits, Comment, Spoilt}
-use Rattle.script.specs.declared.Line.{Line}
-use Rattle.script.specs.Lines.{Within}
+use Rattle.script_line.specs.declared.Reading.{Reading}
+use Rattle.script_line.specs.declared.Reading.the-variants.{Nothing, Name, Gap, Digits, Comment, Spoilt}
+use Rattle.script_line.specs.declared.Line.{Line}
+use Rattle.script_line.specs.Lines.{Within}
 
 -- A byte from `0` to `9`, and a byte from `a` to `z`.
 unfoldable pub isDigit : ℕ → Bool
