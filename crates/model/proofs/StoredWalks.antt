@@ -52,14 +52,14 @@ module _ (w : List ℕ) (p : Passes w) (a : ℕ) (la : a < length (decode w .lis
   own-slot i k e = omega (arith, slot-of (decode w) (p .sound) a (take i xs) (at xs i) (drop (suc i) xs) (cut i k) .1, p .sizes, e)
 
   -- where a present link of stage h leads: the owner d + 1 ranks on
-  record Ahead (h r d : ℕ) : Type 0 where
+  record LeadsOn (h r d : ℕ) : Type 0 where
     inside : r + suc d ≤ length xs
     to : target h (drop r xs) ≡ slotAt a xs (r + suc d)
     some : slotAt a xs (r + suc d) ≢ N
     key : cellAt M w (slotAt a xs (r + suc d)) keyColumn ≡ keyAt xs (r + suc d - 1)
     tall : h ≤ heightAt M xs (r + suc d)
 
-  leads : (h r d : ℕ) → r ≤ length xs → distance h (drop r xs) ≡ suc d → Ahead h r d
+  leads : (h r d : ℕ) → r ≤ length xs → distance h (drop r xs) ≡ suc d → LeadsOn h r d
   leads h r d k f =
       let e : r + suc d ≡ suc (r + d) = omega arith in
       let e′ : r + suc d - 1 ≡ r + d = omega arith in
