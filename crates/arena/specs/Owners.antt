@@ -7,6 +7,8 @@ use lib.ListN.{length, take, getD}
 use Rattle.model.specs.Nodes.{slotAt, heightAt}
 use Rattle.model.specs.Closed.{last}
 use Rattle.model.specs.Passes.{decode, nodes, Passes}
+use Rattle.arena.specs.declared.Slot.{Slot}
+use Rattle.arena.specs.declared.Rank.{Rank}
 use Rattle.arena.specs.declared.Path.{Path}
 
 -- The words pass, m is their number of levels, and a is a list of theirs.
@@ -35,10 +37,17 @@ pub record Owner (w : List ℕ) (a r s h : ℕ) : Type 0 where
   pub tall : h ≤ heightAt (decode w .levels) (nodes w a) r
   pub level : h ≤ decode w .levels
 
+-- The slot, and the rank, that is noted for level l.
+abbrev pub slotIn : List Slot → ℕ → ℕ
+slotIn slots l = getD slots l (record { 0 = 0 }) .0
+
+abbrev pub rankIn : List Rank → ℕ → ℕ
+rankIn ranks l = getD ranks l (record { 0 = 0 }) .0
+
 -- The precursors of index i: of each level the last owner of a greater height with rank at most i.
-pub record Before (w : List ℕ) (m a i : ℕ) (slots ranks : List ℕ) : Type 0 where
-  pub rank : (l : ℕ) → l < m → getD ranks l 0 ≡ last (suc l) (take i (nodes w a))
-  pub slot : (l : ℕ) → l < m → getD slots l 0 ≡ slotAt a (nodes w a) (getD ranks l 0)
+pub record Before (w : List ℕ) (m a i : ℕ) (slots : List Slot) (ranks : List Rank) : Type 0 where
+  pub rank : (l : ℕ) → l < m → rankIn ranks l ≡ last (suc l) (take i (nodes w a))
+  pub slot : (l : ℕ) → l < m → slotIn slots l ≡ slotAt a (nodes w a) (rankIn ranks l)
 
 -- The path notes the precursors of index i, and the slot of rank i.
 pub record Leads (w : List ℕ) (m a i : ℕ) (p : Path) : Type 0 where

@@ -42,7 +42,7 @@ pub use links::put_link;
 pub use links::target_in;
 pub use words::cell;
 pub use words::header;
-pub use words::last_word;
+pub use words::last_slot;
 pub use words::put;
 pub use words::put_header;
 pub use words::put2;
@@ -59,8 +59,8 @@ pub struct Index(pub u32);
 
 // What a walk to an index notes (the crate's `Path`): of each level the precursor's slot and rank, and the slot just before the index.
 pub struct Path {
-    pub slots: [u32; 16],
-    pub ranks: [u32; 16],
+    pub slots: [Slot; 16],
+    pub ranks: [Rank; 16],
     pub end: Slot,
 }
 

@@ -42,12 +42,12 @@ pub fn put2(w: &mut [u32], m: usize, c: usize, x: Slot, v: u32, y: Slot, u: u32)
     put(w, m, y, c, u);
 }
 
-// The word for the last node of a list of n nodes, of which `slot` is the last if there is one.
-pub fn last_word(n: u32, slot: u32) -> u32
-    ensures { λ r. ⌜ r ≡ cond (eqb n 0) N slot ⌝ }
+// The last node of a list of n nodes, of which `slot` is the last if there is one.
+pub fn last_slot(n: u32, slot: Slot) -> Slot
+    ensures { λ r. ⌜ r .0 ≡ cond (eqb n 0) N (slot .0) ⌝ }
 {
     if n == 0 {
-        return Slot::NONE.0;
+        return Slot::NONE;
     }
     slot
 }

@@ -34,20 +34,20 @@ module _ {S T : State} {a o : ℕ} {A X Y : List Node} (H : Hung S T a o A X Y) 
   pub record ChainIs (head : Head) (next : ℕ) (node : Record) : Type 0 where
     pub head-slot : head .slot .0 ≡ a
     pub node-slot : node .slot .0 ≡ o
-    pub last : getD (recordOf T a) 3 0 ≡ head .last
+    pub last : getD (recordOf T a) 3 0 ≡ head .last .0
     pub zero : getD (recordOf T o) 3 0 ≡ getD (recordOf S o) 3 0
     pub next-end : target 0 Y ≡ next
-    pub next-node : getD (recordOf T o) 2 0 ≡ node .next
+    pub next-node : getD (recordOf T o) 2 0 ≡ node .next .0
     pub height : getD (recordOf T o) 1 0 ≡ node .height
     pub count : getD (recordOf T a) 0 0 ≡ head .count
     pub key : getD (recordOf T o) 0 0 ≡ node .key
 
   module _ {head : Head} {next : ℕ} {node : Record} (is : ChainIs head next node) {w : List ℕ} (g : Half S T (header S) m 4 w) where
     abbrev w₃ : List ℕ
-    w₃ = putAt m w a 3 (head .last)
+    w₃ = putAt m w a 3 (head .last .0)
 
     abbrev w₂ : List ℕ
-    w₂ = putAt m (putAt m w₃ e 2 next) o 2 (node .next)
+    w₂ = putAt m (putAt m w₃ e 2 next) o 2 (node .next .0)
 
     abbrev w₁ : List ℕ
     w₁ = putAt m w₂ o 1 (node .height)
@@ -57,12 +57,12 @@ module _ {S T : State} {a o : ℕ} {A X Y : List Node} (H : Hung S T a o A X Y) 
 
     col-3 : Half S T (header S) m 3 w₃
     col-3 =
-        one-col 3 (omega arith) g a (head .last) a-in (λ s l na. elim (same? s o) [ same _ q ↦ rw q (is .zero) | other _ q ↦ same-3 H s l na q ]) (is .last)
+        one-col 3 (omega arith) g a (head .last .0) a-in (λ s l na. elim (same? s o) [ same _ q ↦ rw q (is .zero) | other _ q ↦ same-3 H s l na q ]) (is .last)
 
     col-2 : Half S T (header S) m 2 w₂
     col-2 =
         let column = next-column (S .levels) in
-        col 2 (omega arith) col-3 e next o (node .next) (st .known) on (st .same 2 0 column) (st .new 2 0 column ∙ is .next-end) (is .next-node) refl
+        col 2 (omega arith) col-3 e next o (node .next .0) (st .known) on (st .same 2 0 column) (st .new 2 0 column ∙ is .next-end) (is .next-node) refl
 
     col-1 : Half S T (header S) m 1 w₁
     col-1 = one-col 1 (omega arith) col-2 o (node .height) on (λ s l no. same-1 H s l no) (is .height)

@@ -17,8 +17,8 @@ pub record ChainLies (w : List ℕ) (m a e o : ℕ) : Type 0 where
 -- Length and last node of the head, next of slot e, and the first words of the node's record.
 abbrev pub putChain : ℕ → List ℕ → Head → ℕ → ℕ → Record → List ℕ
 putChain m w a e next o =
-    let w₃ = putAt m w (a .slot .0) lastColumn (a .last) in
-    let w₂ = putAt m (putAt m w₃ e nextColumn next) (o .slot .0) nextColumn (o .next) in
+    let w₃ = putAt m w (a .slot .0) lastColumn (a .last .0) in
+    let w₂ = putAt m (putAt m w₃ e nextColumn next) (o .slot .0) nextColumn (o .next .0) in
     let w₁ = putAt m w₂ (o .slot .0) heightColumn (o .height) in
     putAt m (putAt m w₁ (a .slot .0) countColumn (a .count)) (o .slot .0) keyColumn (o .key)
 

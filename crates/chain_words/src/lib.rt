@@ -19,7 +19,7 @@ ghost use Rattle.chain_words.specs.Chain.{ChainLies, putChain, putFree};
 pub struct Head {
     pub slot: Slot,
     pub count: u32,
-    pub last: u32,
+    pub last: Slot,
 }
 
 // The first words of a node's record, as a node's of a list or a free one's.
@@ -27,27 +27,27 @@ pub struct Record {
     pub slot: Slot,
     pub key: u32,
     pub height: u32,
-    pub next: u32,
+    pub next: Slot,
 }
 
 // The chain's words; `next` is the next word of slot `end`, which stands before the node. A head's length has the column of a node's key.
-pub fn put_chain(w: &mut [u32], m: usize, head: Head, end: Slot, next: u32, node: Record)
+pub fn put_chain(w: &mut [u32], m: usize, head: Head, end: Slot, next: Slot, node: Record)
     requires { ⌜ ChainLies (now w) m (head .slot .0) (end .0) (node .slot .0) ⌝ }
-    ensures { λ _. ⌜ now (w .exit) ≡ putChain m (now (w .entry)) head (end .0) next node ⌝ }
+    ensures { λ _. ⌜ now (w .exit) ≡ putChain m (now (w .entry)) head (end .0) (next .0) node ⌝ }
 {
     let a = head.slot;
     let o = node.slot;
-    put(w, m, a, LAST, head.last);
-    put2(w, m, NEXT, end, next, o, node.next);
+    put(w, m, a, LAST, head.last.0);
+    put2(w, m, NEXT, end, next.0, o, node.next.0);
     put(w, m, o, HEIGHT, node.height);
     put2(w, m, KEY, a, head.count, o, node.key);
 }
 
 // The free chain's first slot and number.
-pub fn put_free(w: &mut [u32], first: u32, count: u32)
+pub fn put_free(w: &mut [u32], first: Slot, count: u32)
     requires { ⌜ headerWords ≤ length (now w) ⌝ }
-    ensures { λ _. ⌜ now (w .exit) ≡ putFree (now (w .entry)) first count ⌝ }
+    ensures { λ _. ⌜ now (w .exit) ≡ putFree (now (w .entry)) (first .0) count ⌝ }
 {
-    put_header(w, FIRST_FREE_WORD, first);
+    put_header(w, FIRST_FREE_WORD, first.0);
     put_header(w, FREE_WORD, count);
 }

@@ -114,10 +114,10 @@ module _ {w₀ : List ℕ} {m a i k h : ℕ} (p : CanInsert w₀ m a i k h) wher
     pub new-last : last ≡ cond (eqb i n) z l
 
   abbrev new-head : ℕ → ℕ → Head
-  new-head n last = record { slot = record { 0 = a }; count = n + 1; last = last }
+  new-head n last = record { slot = record { 0 = a }; count = n + 1; last = record { 0 = last } }
 
   abbrev new-node : ℕ → ℕ → Record
-  new-node z next = record { slot = record { 0 = z }; key = k; height = h; next = next }
+  new-node z next = record { slot = record { 0 = z }; key = k; height = h; next = record { 0 = next } }
 
   module _ {e : ℕ} (ee : e ≡ slotAt a xs i) where
     st : Stage (H p) 0 e i

@@ -27,11 +27,11 @@ ghost use Rattle.arena.specs.Owners.{Listed, Leads};
 ghost use Rattle.level_links.specs.AtIndex.{insertedAt, CanInsert};
 
 // The last node's slot, once the node in slot o stands at index i of n.
-fn last_with(i: Index, n: u32, o: Slot, last: u32) -> u32
-    ensures { λ r. ⌜ r ≡ cond (eqb (i .0) n) (o .0) last ⌝ }
+fn last_with(i: Index, n: u32, o: Slot, last: Slot) -> Slot
+    ensures { λ r. ⌜ r .0 ≡ cond (eqb (i .0) n) (o .0) (last .0) ⌝ }
 {
     if i.0 == n {
-        return o.0;
+        return o;
     }
     last
 }
@@ -51,11 +51,11 @@ pub fn insert_before(
 {
     let o = Slot(header(w, FIRST_FREE_WORD));
     let free = header(w, FREE_WORD);
-    let rest = cell(w, m, o, NEXT);
+    let rest = Slot(cell(w, m, o, NEXT));
     let n = cell(w, m, list, COUNT);
     let end = path.end;
-    let next = cell(w, m, end, NEXT);
-    let last = last_with(i, n, o, cell(w, m, list, LAST));
+    let next = Slot(cell(w, m, end, NEXT));
+    let last = last_with(i, n, o, Slot(cell(w, m, list, LAST)));
     insert_links(w, m, list, key, height, i, o, path);
     let head = Head {
         slot: list,
@@ -68,7 +68,7 @@ pub fn insert_before(
         height,
         next,
     };
-    put_chain(w, m, head, end, o.0, node);
+    put_chain(w, m, head, end, o, node);
     put_free(w, rest, free - 1);
 }
 

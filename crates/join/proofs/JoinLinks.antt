@@ -8,7 +8,9 @@ use lib.Seq.{getD-set-same, getD-set-other, lt-length-set, take-all}
 use native.Mathlib.Omega.{arith}
 use borrow.Author.Tests.{le-leb}
 use Rattle.arena.specs.Linked.{putLink}
-use Rattle.arena.specs.Owners.{Before, Listed}
+use Rattle.arena.specs.Owners.{slotIn, rankIn, Before, Listed}
+use Rattle.arena.specs.declared.Slot.{Slot}
+use Rattle.arena.specs.declared.Rank.{Rank}
 use Rattle.model.specs.Arena.{toColumn, farColumn, State, listOf, recordOf, slots-of}
 use Rattle.model.specs.Closed.{doJoin, last}
 use Rattle.model.specs.Cells.{Cell, cellAt, linkAt}
@@ -120,12 +122,12 @@ module _ {w₀ : List ℕ} {m a b : ℕ} (p : Joins w₀ m a b) where
       e ∙ no-level .between .below a 0 (omega (arith, p .onto .list)) (omega arith) (omega arith)
       ∙ ap (λ (R : List ℕ). getD R 0 0) (head-S H) ∙ sym (ap length (H .is-S))
 
-  module _ {n : ℕ} (en : n ≡ length A) {slots ranks : List ℕ} (q : Before w₀ m a (length A) slots ranks) {l : ℕ} (k : l < m) where
+  module _ {n : ℕ} (en : n ≡ length A) {slots : List Slot} {ranks : List Rank} (q : Before w₀ m a (length A) slots ranks) {l : ℕ} (k : l < m) where
     abbrev s : ℕ
-    s = getD slots l 0
+    s = slotIn slots l
 
     abbrev r : ℕ
-    r = getD ranks l 0
+    r = rankIn ranks l
 
     pub last-owner : Stage H (suc l) s r
     last-owner = stage-of (suc l) s r (omega arith) (q .rank l k) (q .slot l k)

@@ -43,7 +43,8 @@ fn join_links(w: &mut [u32], m: usize, onto: Slot, from: Slot, n: u32, path: Pat
     let ranks = path.ranks;
     let mut l = 0;
     while l < m {
-        join_level(w, m, l, Slot(slots[l]), from, n - ranks[l]);
+        let by = n - ranks[l].0;
+        join_level(w, m, l, slots[l], from, by);
         l += 1;
     }
 }

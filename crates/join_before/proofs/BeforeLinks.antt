@@ -5,7 +5,9 @@ use mathlib.Core.List.{List}
 use lib.ListN.{length, take, getD}
 use native.Mathlib.Omega.{arith}
 use Rattle.arena.specs.Linked.{LinkIn, putLink}
-use Rattle.arena.specs.Owners.{Before}
+use Rattle.arena.specs.Owners.{slotIn, rankIn, Before}
+use Rattle.arena.specs.declared.Slot.{Slot}
+use Rattle.arena.specs.declared.Rank.{Rank}
 use Rattle.model.specs.Arena.{toColumn, State, recordOf, slots-of}
 use Rattle.model.specs.Cells.{cellAt, putAt, linkAt}
 use Rattle.model.specs.Links.{linkWords, absentLink}
@@ -48,13 +50,13 @@ module _ {w₀ : List ℕ} {m a b : ℕ} (p : Joins w₀ m b a) where
   bn : b < slots-of S
   bn = omega (arith, p .onto .list)
 
-  module _ {n : ℕ} (en : n ≡ length (nodes w₀ b)) {slots ranks : List ℕ} (q : Before w₀ m b (length (nodes w₀ b)) slots ranks)
+  module _ {n : ℕ} (en : n ≡ length (nodes w₀ b)) {slots : List Slot} {ranks : List Rank} (q : Before w₀ m b (length (nodes w₀ b)) slots ranks)
       {l : ℕ} (k : l < m) {w : List ℕ} (g : BeforeLevels l w) where
     abbrev s : ℕ
-    s = getD slots l 0
+    s = slotIn slots l
 
     abbrev r : ℕ
-    r = getD ranks l 0
+    r = rankIn ranks l
 
     pub b-link-in : LinkIn w m b l
     b-link-in = link-there m (slots-of S) (small p) w (g .between) b l bn k

@@ -45,7 +45,8 @@ fn before_links(w: &mut [u32], m: usize, a: Slot, b: Slot, n: u32, path: Path)
     let ranks = path.ranks;
     let mut l = 0;
     while l < m {
-        before_level(w, m, l, Slot(slots[l]), a, b, n - ranks[l]);
+        let by = n - ranks[l].0;
+        before_level(w, m, l, slots[l], a, b, by);
         l += 1;
     }
 }

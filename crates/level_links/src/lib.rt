@@ -117,11 +117,12 @@ pub fn insert_links(
 {
     let slots = path.slots;
     let ranks = path.ranks;
-    let place = Rank::before(i).0;
+    let place = Rank::before(i);
     let h = wide(height);
     let mut l = 0;
     while l < m {
-        insert_level(w, m, l, h, Slot(slots[l]), o, place - ranks[l]);
+        let back = place.0 - ranks[l].0;
+        insert_level(w, m, l, h, slots[l], o, back);
         l += 1;
     }
 }
@@ -134,10 +135,11 @@ pub fn remove_links(w: &mut [u32], m: usize, list: Slot, i: Index, o: Slot, h: u
 {
     let slots = path.slots;
     let ranks = path.ranks;
-    let place = Rank::before(i).0;
+    let place = Rank::before(i);
     let mut l = 0;
     while l < m {
-        remove_level(w, m, l, h, Slot(slots[l]), o, place - ranks[l]);
+        let back = place.0 - ranks[l].0;
+        remove_level(w, m, l, h, slots[l], o, back);
         l += 1;
     }
 }

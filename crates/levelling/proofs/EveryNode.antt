@@ -2,7 +2,7 @@
 use Prim.Native.Nat.{ℕ, suc, _+_, _≤_, _<_}
 use mathlib.Core.Path.{_≡_, refl, sym, ap, ap₂, _∙_, subst}
 use mathlib.Core.List.{List, [], _∷_, _++_, append-assoc}
-use lib.ListN.{length, take, drop, getD, set, replicate, length-append, length-drop, length-replicate, getD-replicate, drop-of-length-le, take-append-drop}
+use lib.ListN.{length, take, drop, set, replicate, length-append, length-drop, length-replicate, getD-replicate, drop-of-length-le, take-append-drop}
 use lib.Seq.{set-set, set-getD, drop-cons, take-at, drop-at, length-take-le}
 use native.Mathlib.Omega.{arith}
 use Rattle.model.specs.Nodes.{Node, node, N, at, slotAt}
@@ -13,7 +13,9 @@ use Rattle.model.specs.Cells.{Cell, cellAt}
 use Rattle.model.specs.Passes.{decode, nodes}
 use Rattle.model.proofs.Counting.{list-few}
 use Rattle.model.proofs.Levels.{twos-le}
-use Rattle.arena.specs.Owners.{Listed, Leads, NodeThere}
+use Rattle.arena.specs.Owners.{slotIn, rankIn, Listed, Leads, NodeThere}
+use Rattle.arena.specs.declared.Slot.{Slot}
+use Rattle.arena.specs.declared.Rank.{Rank}
 use Rattle.arena.specs.declared.Path.{Path}
 use Rattle.arena.proofs.Places.{fits, length-word}
 use Rattle.levelling.specs.NodeByNode.{levelledAt, levelledFrom, Full, CanRelevel, Relevelled}
@@ -80,25 +82,34 @@ module _ {w₀ : List ℕ} {m a n i : ℕ} {w : List ℕ} {path : Path} (g : Lev
   pub can-relevel : i < n → (k : ℕ) {h : ℕ} → h ≡ twos m k → CanRelevel w m a i h path
   can-relevel l k e = record { there = next-there l; leads = g .leads; full = g .full; height = omega (arith, e, twos-le m k) }
 
-pub level-start : {w : List ℕ} {m a n : ℕ} {path : Path} → Listed w m a → n ≡ cellAt m w a 0 → path .slots ≡ replicate 16 a → path .ranks ≡ replicate 16 0 → path .end .0 ≡ a
+abbrev slot : ℕ → Slot
+slot s = record { 0 = s }
+
+abbrev first-rank : Rank
+first-rank = record { 0 = 0 }
+
+pub level-start : {w : List ℕ} {m a n : ℕ} {path : Path} → Listed w m a → n ≡ cellAt m w a 0 → path .slots ≡ replicate 16 (slot a) → path .ranks ≡ replicate 16 first-rank → path .end .0 ≡ a
     → Levelling w m a n 0 w path
 level-start {w} {m} {a} {n} {path} p en es er ee = record {
   listed = p;
   leads = record {
     before = record {
       rank = λ l k. rank-at l (omega (arith, small p));
-      slot = λ l k. ap (λ (t : List ℕ). getD t l 0) es ∙ getD-replicate 16 l a 0 (omega (arith, small p)) ∙ sym (ap (slotAt a (nodes w a)) (rank-at l (omega (arith, small p))));
+      slot = λ l k. slot-at l (omega (arith, small p)) ∙ sym (ap (slotAt a (nodes w a)) (rank-at l (omega (arith, small p))));
     };
     end = ee;
   };
-  full = record { slots = ap length es ∙ length-replicate 16 a; ranks = ap length er ∙ length-replicate {A = ℕ} 16 0 };
+  full = record { slots = ap length es ∙ length-replicate 16 (slot a); ranks = ap length er ∙ length-replicate 16 first-rank };
   rest = refl;
   count = count-is p en;
   size = refl;
 }
   where
-    rank-at : (l : ℕ) → l < 16 → getD (path .ranks) l 0 ≡ 0
-    rank-at l k = ap (λ (t : List ℕ). getD t l 0) er ∙ getD-replicate 16 l 0 0 k
+    rank-at : (l : ℕ) → l < 16 → rankIn (path .ranks) l ≡ 0
+    rank-at l k = ap (λ (t : List Rank). rankIn t l) er ∙ ap (λ (r : Rank). r .0) (getD-replicate 16 l first-rank first-rank k)
+
+    slot-at : (l : ℕ) → l < 16 → slotIn (path .slots) l ≡ a
+    slot-at l k = ap (λ (t : List Slot). slotIn t l) es ∙ ap (λ (s : Slot). s .0) (getD-replicate 16 l (slot a) (slot 0) k)
 
 pub level-turn : {w₀ : List ℕ} {m a n i : ℕ} {w : List ℕ} {path : Path} → Levelling w₀ m a n i w path → i < n → {k h : ℕ} → k ≡ i + 1 → h ≡ twos m k
     → {u : List ℕ} {q : Path} → Relevelled w m a i h u q → length u ≡ length w → Levelling w₀ m a n (i + 1) u q

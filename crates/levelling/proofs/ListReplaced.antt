@@ -13,7 +13,7 @@ use Rattle.model.proofs.Builds.{passes-encode}
 use Rattle.model.proofs.Records.{decode-encode}
 use Rattle.model.proofs.Splitting.{slot-take}
 use Rattle.model.proofs.Walk.{last-le}
-use Rattle.arena.specs.Owners.{Listed, Leads}
+use Rattle.arena.specs.Owners.{rankIn, Listed, Leads}
 use Rattle.arena.specs.declared.Path.{Path}
 
 -- a path leads to an index by the nodes before it alone
@@ -22,12 +22,12 @@ leads-kept {w} {u} {m} {a} {i} {p} q e l =
     record {
       before = record {
         rank = λ j k. q .before .rank j k ∙ ap (last (suc j)) (sym e);
-        slot = λ j k. q .before .slot j k ∙ sym (slot-u (getD (p .ranks) j 0) (rank-le j k));
+        slot = λ j k. q .before .slot j k ∙ sym (slot-u (rankIn (p .ranks) j) (rank-le j k));
       };
       end = q .end ∙ sym (slot-u i (omega arith));
     }
   where
-    rank-le : (j : ℕ) → j < m → getD (p .ranks) j 0 ≤ i
+    rank-le : (j : ℕ) → j < m → rankIn (p .ranks) j ≤ i
     rank-le j k = omega (arith, q .before .rank j k, last-le (suc j) (take i (nodes w a)), length-take-le i (nodes w a) l)
 
     slot-u : (r : ℕ) → r ≤ i → slotAt a (nodes u a) r ≡ slotAt a (nodes w a) r

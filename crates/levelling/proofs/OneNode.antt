@@ -19,7 +19,7 @@ use Rattle.model.proofs.Owners.{last-mid}
 use Rattle.model.proofs.Splitting.{slot-take}
 use Rattle.model.proofs.Tests.{hit, miss, test}
 use Rattle.model.proofs.Walk.{last-le}
-use Rattle.arena.specs.Owners.{Listed, Leads, NodeThere}
+use Rattle.arena.specs.Owners.{slotIn, rankIn, Listed, Leads, NodeThere}
 use Rattle.arena.specs.declared.Path.{Path}
 use Rattle.level_links.specs.AtIndex.{insertedAt, CanInsert}
 use Rattle.levelling.specs.NodeByNode.{levelledAt, SteppedOver, Relevelled}
@@ -144,23 +144,23 @@ module _ {w : List ℕ} {m a i : ℕ} (p : NodeThere w m a i) {h : ℕ} (hm : h 
         in-16 : (l : ℕ) → l < m → l < 16
         in-16 l k = omega (arith, p .listed .levels, p .listed .passes .sizes .levels-most)
 
-        rank-at : (l : ℕ) → l < m → getD (q .ranks) l 0 ≡ last (suc l) (take (suc i) (nodes v a))
+        rank-at : (l : ℕ) → l < m → rankIn (q .ranks) l ≡ last (suc l) (take (suc i) (nodes v a))
         rank-at l k = z .ranks l (in-16 l k) ∙ elim (test (suc l) h) [
           | hit e c ↦ rw (e, next-take, last-mid (suc l) A n [] c) (omega (arith, length-A))
           | miss e c ↦ rw (e, next-take, last-low (suc l) A n (omega arith)) (d .before .rank l k)
         ]
 
-        slot-at : (l : ℕ) → l < m → getD (q .slots) l 0 ≡ slotAt a (nodes v a) (getD (q .ranks) l 0)
+        slot-at : (l : ℕ) → l < m → slotIn (q .slots) l ≡ slotAt a (nodes v a) (rankIn (q .ranks) l)
         slot-at l k = elim (test (suc l) h) [
           | hit e c ↦
-              let r : getD (q .ranks) l 0 ≡ suc i = z .ranks l (in-16 l k) ∙ (rw e refl) in
-              let s : getD (q .slots) l 0 ≡ y .slot = z .slots l (in-16 l k) ∙ (rw e refl) in
+              let r : rankIn (q .ranks) l ≡ suc i = z .ranks l (in-16 l k) ∙ (rw e refl) in
+              let s : slotIn (q .slots) l ≡ y .slot = z .slots l (in-16 l k) ∙ (rw e refl) in
               s ∙ sym (ap (slotAt a (nodes v a)) r ∙ new-slot)
           | miss e c ↦
-              let r : getD (q .ranks) l 0 ≡ getD (path .ranks) l 0 = z .ranks l (in-16 l k) ∙ (rw e refl) in
-              let s : getD (q .slots) l 0 ≡ getD (path .slots) l 0 = z .slots l (in-16 l k) ∙ (rw e refl) in
-              let b : getD (path .ranks) l 0 ≤ i = omega (arith, d .before .rank l k, last-le (suc l) A, length-A) in
-              s ∙ d .before .slot l k ∙ sym (ap (slotAt a (nodes v a)) r ∙ old-slot (getD (path .ranks) l 0) b)
+              let r : rankIn (q .ranks) l ≡ rankIn (path .ranks) l = z .ranks l (in-16 l k) ∙ (rw e refl) in
+              let s : slotIn (q .slots) l ≡ slotIn (path .slots) l = z .slots l (in-16 l k) ∙ (rw e refl) in
+              let b : rankIn (path .ranks) l ≤ i = omega (arith, d .before .rank l k, last-le (suc l) A, length-A) in
+              s ∙ d .before .slot l k ∙ sym (ap (slotAt a (nodes v a)) r ∙ old-slot (rankIn (path .ranks) l) b)
         ]
 
     pub relevelled : {path q : Path} {s r g : ℕ} → Leads w m a i path → s ≡ y .slot → r ≡ i + 1 → g ≡ h → SteppedOver path s r g q → Relevelled w m a i h v q

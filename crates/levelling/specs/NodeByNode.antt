@@ -4,12 +4,12 @@ use mathlib.Core.Path.{_≡_}
 use mathlib.Core.Bool.{cond}
 use mathlib.Core.List.{List, _∷_, _++_}
 use lib.Dec.{ltb}
-use lib.ListN.{length, take, drop, getD}
+use lib.ListN.{length, take, drop}
 use Rattle.model.specs.Nodes.{node, at}
 use Rattle.model.specs.Lists.{levelFrom}
 use Rattle.model.specs.Arena.{State, listOf, putList, encode}
 use Rattle.model.specs.Passes.{decode}
-use Rattle.arena.specs.Owners.{Leads, NodeThere}
+use Rattle.arena.specs.Owners.{slotIn, rankIn, Leads, NodeThere}
 use Rattle.arena.specs.declared.Path.{Path}
 
 -- The node at index i of list a at height h; "slots and keys stay".
@@ -27,8 +27,8 @@ pub record Full (p : Path) : Type 0 where
 
 -- A path that goes on over a node of height h and rank r in a slot: the node is the precursor of the levels below its height.
 pub record SteppedOver (p : Path) (slot r h : ℕ) (q : Path) : Type 0 where
-  pub slots : (l : ℕ) → l < 16 → getD (q .slots) l 0 ≡ cond (ltb l h) slot (getD (p .slots) l 0)
-  pub ranks : (l : ℕ) → l < 16 → getD (q .ranks) l 0 ≡ cond (ltb l h) r (getD (p .ranks) l 0)
+  pub slots : (l : ℕ) → l < 16 → slotIn (q .slots) l ≡ cond (ltb l h) slot (slotIn (p .slots) l)
+  pub ranks : (l : ℕ) → l < 16 → rankIn (q .ranks) l ≡ cond (ltb l h) r (rankIn (p .ranks) l)
   pub end : q .end .0 ≡ slot
   pub full : Full q
 

@@ -44,12 +44,10 @@ fn step_over(path: Path, slot: Slot, rank: Rank, h: usize) -> Path
 {
     let mut slots = path.slots;
     let mut ranks = path.ranks;
-    let s = slot.0;
-    let r = rank.0;
     let mut l = 0;
     while l < h {
-        slots[l] = s;
-        ranks[l] = r;
+        slots[l] = slot;
+        ranks[l] = rank;
         l += 1;
     }
     Path {
@@ -76,8 +74,8 @@ pub fn level(w: &mut [u32], m: usize, list: Slot)
 {
     let n = cell(w, m, list, COUNT);
     let mut path = Path {
-        slots: [list.0; 16],
-        ranks: [0u32; 16],
+        slots: [list; 16],
+        ranks: [Rank::HEAD; 16],
         end: list,
     };
     let mut i: u32 = 0;

@@ -9,6 +9,8 @@ use Rattle.model.specs.Cells.{Cell, cellAt}
 use Rattle.model.specs.Passes.{nodes}
 use Rattle.model.specs.Arena.{keyColumn}
 use Rattle.arena.specs.Owners.{Leads}
+use Rattle.arena.specs.declared.Slot.{Slot}
+use Rattle.arena.specs.declared.Rank.{Rank}
 use Rattle.walk.specs.Standing.{Standing, Sought}
 use Rattle.precursors.specs.declared.Tracer.{Tracer}
 use Rattle.precursors.specs.declared.Outcome.{Outcome}
@@ -56,7 +58,7 @@ pub record Trailed (w : List ℕ) (m a t : ℕ) (r : Trail) : Type 0 where
   pub outcome : r .outcome ≡ outcomeOf (isFound (keyWalk m t (nodes w a)))
 
 -- The trail has the precursors' slots ss and ranks rs, and the stop in front of the key's place.
-pub record Joined (ss rs : List ℕ) (s : Stop) (r : Trail) : Type 0 where
+pub record Joined (ss : List Slot) (rs : List Rank) (s : Stop) (r : Trail) : Type 0 where
   pub slots : r .path .slots ≡ ss
   pub ranks : r .path .ranks ≡ rs
   pub end : r .path .end .0 ≡ s .slot .0

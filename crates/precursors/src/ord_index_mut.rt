@@ -50,7 +50,7 @@ fn trace_next(w: &[u32], m: usize, list: Slot, key: Key, from: Tracer) -> Stop
 }
 
 // The precursors, and the stop in front of the key's place.
-fn trail(slots: [u32; 16], ranks: [u32; 16], s: Stop) -> Trail
+fn trail(slots: [Slot; 16], ranks: [Rank; 16], s: Stop) -> Trail
     ensures { λ r. ⌜ Joined slots ranks s r ⌝ }
 {
     let end = s.slot;
@@ -68,8 +68,8 @@ pub fn find(w: &[u32], m: usize, list: Slot, key: Key) -> Trail
     requires { ⌜ Listed (now w) m (list .0) ⌝ }
     ensures { λ r. ⌜ Trailed (now (w .entry)) m (list .0) key r ⌝ }
 {
-    let mut slots = [list.0; 16];
-    let mut ranks = [0u32; 16];
+    let mut slots = [list; 16];
+    let mut ranks = [Rank::HEAD; 16];
     let mut v = Tracer {
         slot: list,
         rank: Rank::HEAD,
@@ -82,8 +82,10 @@ pub fn find(w: &[u32], m: usize, list: Slot, key: Key) -> Trail
         if !goes_below(w, m, to, key) {
             v.bound = to;
             let l = stage - 1;
-            slots[l] = v.slot.0;
-            ranks[l] = v.rank.0;
+            let at = v.slot;
+            let rank = v.rank;
+            slots[l] = at;
+            ranks[l] = rank;
             stage = l;
             continue;
         }

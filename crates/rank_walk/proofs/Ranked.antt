@@ -13,7 +13,9 @@ use Rattle.model.specs.Arena.{nextColumn}
 use Rattle.model.specs.Cells.{cellAt}
 use Rattle.model.specs.Passes.{nodes}
 use Rattle.model.proofs.ByRank.{rank-precursor, rank-head, rank-head-precursor, rank-there, rank-past}
-use Rattle.arena.specs.Owners.{Listed, Leads}
+use Rattle.arena.specs.Owners.{rankIn, Listed, Leads}
+use Rattle.arena.specs.declared.Slot.{Slot}
+use Rattle.arena.specs.declared.Rank.{Rank}
 use Rattle.arena.specs.declared.Path.{Path}
 use Rattle.rank_walk.specs.Ranks.{endOf, WalkedByRank}
 use Rattle.rank_walk.specs.declared.Ended.{Ended}
@@ -21,16 +23,24 @@ use Rattle.rank_walk.specs.declared.Ended.the-variants.{At, None}
 use Rattle.walk.proofs.Standing.{at-rank}
 use Rattle.rank_walk.proofs.Seeking.{steps}
 
+abbrev slot : ℕ → Slot
+slot s = record { 0 = s }
+
+abbrev first-rank : Rank
+first-rank = record { 0 = 0 }
+
 abbrev at-slot : ℕ → Ended
-at-slot s = At (record { 0 = s })
+at-slot s = At (slot s)
 
 module _ {w : List ℕ} {m a : ℕ} (g : Listed w m a) where
-  pub ranked-head : (t : ℕ) → t ≡ 0 → WalkedByRank w m a t (record { slots = replicate 16 a; ranks = replicate 16 0; ended = at-slot a })
+  pub ranked-head : (t : ℕ) → t ≡ 0 → WalkedByRank w m a t (record { slots = replicate 16 (slot a); ranks = replicate 16 first-rank; ended = at-slot a })
   ranked-head t e =
       let few : m ≤ 16 = omega (arith, g .levels, g .passes .sizes .levels-most) in
+      let rank-is : (l : ℕ) → l < m → rankIn (replicate 16 first-rank) l ≡ 0
+      = λ l k. ap (λ (r : Rank). r .0) (getD-replicate 16 l first-rank first-rank (omega arith)) in
       rw e (record {
-        rank = λ l k. getD-replicate 16 l 0 0 (omega arith) ∙ sym (rank-head-precursor m (nodes w a) l k);
-        slot = λ l k. getD-replicate 16 l a 0 (omega arith) ∙ sym (ap (slotAt a (nodes w a)) (getD-replicate 16 l 0 0 (omega arith)));
+        rank = λ l k. rank-is l k ∙ sym (rank-head-precursor m (nodes w a) l k);
+        slot = λ l k. ap (λ (s : Slot). s .0) (getD-replicate 16 l (slot a) (slot 0) (omega arith)) ∙ sym (ap (slotAt a (nodes w a)) (rank-is l k));
         ended = sym (ap (endOf a (nodes w a)) (rank-head m (nodes w a)));
       })
 

@@ -7,6 +7,7 @@ use lib.ListN.{getD}
 use Rattle.model.specs.Nodes.{Node, slotAt}
 use Rattle.model.specs.Walks.{rankPrecursors, rankWalk}
 use Rattle.model.specs.Passes.{nodes}
+use Rattle.arena.specs.Owners.{slotIn, rankIn}
 use Rattle.rank_walk.specs.declared.Ended.{Ended}
 use Rattle.rank_walk.specs.declared.Ended.the-variants.{At, None}
 use Rattle.rank_walk.specs.declared.Reached.{Reached}
@@ -17,6 +18,6 @@ endOf a xs none = None
 endOf a xs (some r) = At (record { 0 = slotAt a xs r })
 
 pub record WalkedByRank (w : List ℕ) (m a t : ℕ) (r : Reached) : Type 0 where
-  pub rank : (l : ℕ) → l < m → getD (r .ranks) l 0 ≡ getD (rankPrecursors m t (nodes w a) 0) (m - suc l) 0
-  pub slot : (l : ℕ) → l < m → getD (r .slots) l 0 ≡ slotAt a (nodes w a) (getD (r .ranks) l 0)
+  pub rank : (l : ℕ) → l < m → rankIn (r .ranks) l ≡ getD (rankPrecursors m t (nodes w a) 0) (m - suc l) 0
+  pub slot : (l : ℕ) → l < m → slotIn (r .slots) l ≡ slotAt a (nodes w a) (rankIn (r .ranks) l)
   pub ended : r .ended ≡ endOf a (nodes w a) (rankWalk m t (nodes w a))

@@ -51,8 +51,8 @@ pub fn seek(w: &[u32], m: usize, list: Slot, i: Index) -> Path
     requires { ⌜ Listed (now w) m (list .0) × (i .0 ≤ length (nodes (now w) (list .0))) ⌝ }
     ensures { λ p. ⌜ Leads (now (w .entry)) m (list .0) (i .0) p ⌝ }
 {
-    let mut slots = [list.0; 16];
-    let mut ranks = [0u32; 16];
+    let mut slots = [list; 16];
+    let mut ranks = [Rank::HEAD; 16];
     let limit = Rank::before(i);
     let mut v = Spot {
         slot: list,
@@ -64,8 +64,10 @@ pub fn seek(w: &[u32], m: usize, list: Slot, i: Index) -> Path
         let far = arena::distance_in(w, base, stage);
         if !can_follow(far, limit.0 - v.rank.0) {
             let l = stage - 1;
-            slots[l] = v.slot.0;
-            ranks[l] = v.rank.0;
+            let at = v.slot;
+            let rank = v.rank;
+            slots[l] = at;
+            ranks[l] = rank;
             stage = l;
             continue;
         }
@@ -87,8 +89,8 @@ pub fn by_rank(w: &[u32], m: usize, list: Slot, target: Rank) -> Reached
 {
     if target.0 == Rank::HEAD.0 {
         return Reached {
-            slots: [list.0; 16],
-            ranks: [0u32; 16],
+            slots: [list; 16],
+            ranks: [Rank::HEAD; 16],
             ended: Ended::At(list),
         };
     }

@@ -25,7 +25,7 @@ pub enum Ended {
 
 // The precursors of a target rank, and where the walk ends.
 pub struct Reached {
-    pub slots: [u32; 16],
-    pub ranks: [u32; 16],
+    pub slots: [Slot; 16],
+    pub ranks: [Rank; 16],
     pub ended: Ended,
 }

@@ -101,10 +101,10 @@ module _ {w₀ : List ℕ} {m a i : ℕ} (p : NodeThere w₀ m a i) where
     pub number : free ≡ getD w₀ freeWord 0
 
   abbrev new-head : ℕ → ℕ → Head
-  new-head n last = record { slot = record { 0 = a }; count = n - 1; last = last }
+  new-head n last = record { slot = record { 0 = a }; count = n - 1; last = record { 0 = last } }
 
   abbrev freed-node : ℕ → ℕ → Record
-  freed-node z first = record { slot = record { 0 = z }; key = 0; height = N; next = first }
+  freed-node z first = record { slot = record { 0 = z }; key = 0; height = N; next = record { 0 = first } }
 
   -- e is the slot before the node
   module _ {e : ℕ} (ee : e ≡ slotAt a xs i) where

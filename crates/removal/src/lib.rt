@@ -13,7 +13,7 @@ use arena::Slot;
 use arena::cell;
 use arena::header;
 use arena::key_at;
-use arena::last_word;
+use arena::last_slot;
 use arena::wide;
 use chain_words::Head;
 use chain_words::Record;
@@ -31,13 +31,13 @@ ghost use Rattle.model.specs.Passes.{decode, nodes};
 ghost use Rattle.arena.specs.Owners.{Leads, NodeThere};
 
 // The last node's slot, once the node at index i of n is gone; slot `end` stands before it.
-fn last_without(i: Index, n: u32, end: Slot, last: u32) -> u32
+fn last_without(i: Index, n: u32, end: Slot, last: Slot) -> Slot
     requires { ⌜ i .0 < 4294967295 ⌝ }
-    ensures { λ r. ⌜ r ≡ cond (eqb (i .0 + 1) n) (cond (eqb (i .0) 0) N (end .0)) last ⌝ }
+    ensures { λ r. ⌜ r .0 ≡ cond (eqb (i .0 + 1) n) (cond (eqb (i .0) 0) N (end .0)) (last .0) ⌝ }
 {
     let rank = Rank::from_index(i).0;
     if rank == n {
-        return last_word(i.0, end.0);
+        return last_slot(i.0, end);
     }
     last
 }
@@ -51,10 +51,10 @@ pub fn remove_after(w: &mut [u32], m: usize, list: Slot, i: Index, path: Path) -
     let o = Slot(cell(w, m, end, NEXT));
     let key = key_at(w, m, o);
     let height = cell(w, m, o, HEIGHT);
-    let next = cell(w, m, o, NEXT);
+    let next = Slot(cell(w, m, o, NEXT));
     let n = cell(w, m, list, COUNT);
-    let last = last_without(i, n, end, cell(w, m, list, LAST));
-    let first = header(w, FIRST_FREE_WORD);
+    let last = last_without(i, n, end, Slot(cell(w, m, list, LAST)));
+    let first = Slot(header(w, FIRST_FREE_WORD));
     let free = header(w, FREE_WORD);
     remove_links(w, m, list, i, o, wide(height), path);
     let head = Head {
@@ -69,7 +69,7 @@ pub fn remove_after(w: &mut [u32], m: usize, list: Slot, i: Index, path: Path) -
         next: first,
     };
     put_chain(w, m, head, end, next, node);
-    put_free(w, o.0, free + 1);
+    put_free(w, o, free + 1);
     key
 }
 

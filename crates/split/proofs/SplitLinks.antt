@@ -7,7 +7,9 @@ use lib.Seq.{length-take-le}
 use native.Mathlib.Omega.{arith}
 use borrow.Author.Tests.{le-leb}
 use Rattle.arena.specs.Linked.{LinkIn, putLink}
-use Rattle.arena.specs.Owners.{Before}
+use Rattle.arena.specs.Owners.{slotIn, rankIn, Before}
+use Rattle.arena.specs.declared.Slot.{Slot}
+use Rattle.arena.specs.declared.Rank.{Rank}
 use Rattle.level_links.specs.OneLevel.{nearerLink}
 use Rattle.model.specs.Arena.{toColumn, State, recordOf, slots-of}
 use Rattle.model.specs.Calls.{doSplit}
@@ -68,31 +70,32 @@ module _ {w₀ : List ℕ} {m a b i : ℕ} (p : Splits w₀ m a b i) where
   pub no-level : SplitLevels 0 w₀
   no-level = relink-start w₀ (p .from .passes) T m (p .from .levels)
 
-  module _ {slots ranks : List ℕ} (q : Before w₀ m a i slots ranks) {l : ℕ} {w : List ℕ} (g : SplitLevels l w) (k : l < m) where
+  module _ {slots : List Slot} {ranks : List Rank} (q : Before w₀ m a i slots ranks) {l : ℕ} {w : List ℕ} (g : SplitLevels l w) (k : l < m)
+      {place : ℕ} (ep : place ≡ i) where
     abbrev s : ℕ
-    s = getD slots l 0
+    s = slotIn slots l
 
     abbrev r : ℕ
-    r = getD ranks l 0
+    r = rankIn ranks l
 
     st : Stage H (suc l) s r
     st = stage-of (suc l) s r (omega arith) (q .rank l k) (q .slot l k)
 
-    pub rank-le : r ≤ i
+    pub rank-le : r ≤ place
     rank-le = omega (arith, st .within, length-A)
 
     pub both-links : LinkIn w m s l × LinkIn w m b l
     both-links = (link-s H b-in (p .from .levels) small g k st, link-o H b-in (p .from .levels) small g k st)
 
     -- the receiving head takes the link over
-    b-link : LinkOf (recordOf T) l b (nearerLink (i - r) (linkAt m w s l))
+    b-link : LinkOf (recordOf T) l b (nearerLink (place - r) (linkAt m w s l))
     b-link j f =
         let lm : l < S .levels = omega (arith, p .from .levels) in
-        let n : length A - r ≡ i - r = omega (arith, length-A) in
-        let e : nearerLink (i - r) (linkAt m w s l) ≡ linkOf (suc l) B
-        = ap (nearerLink (i - r)) (old-link H b-in (p .from .levels) small g k st ∙ ap (λ (x : ℕ). linkFrom x (suc l) B) n) ∙ nearer-from (i - r) (suc l) B in
+        let n : length A - r ≡ place - r = omega (arith, length-A) in
+        let e : nearerLink (place - r) (linkAt m w s l) ≡ linkOf (suc l) B
+        = ap (nearerLink (place - r)) (old-link H b-in (p .from .levels) small g k st ∙ ap (λ (x : ℕ). linkFrom x (suc l) B) n) ∙ nearer-from (place - r) (suc l) B in
         ap (λ (R : List ℕ). getD R (toColumn l + j) 0) (b-T like) ∙ link-column (S .levels) l j lm f .head B
         ∙ (rw (le-leb (suc l) (S .levels) lm) (ap (λ (k : List ℕ). getD k j 0) (sym e)))
 
-    pub next-level : {x : List ℕ} → x ≡ putLink m (putLink m w s l absentLink) b l (nearerLink (i - r) (linkAt m w s l)) → SplitLevels (l + 1) x
-    next-level {x} ex = relinked H b-in (p .from .levels) small g k st absentLink refl (nearerLink (i - r) (linkAt m w s l)) refl b-link x ex
+    pub next-level : {x : List ℕ} → x ≡ putLink m (putLink m w s l absentLink) b l (nearerLink (place - r) (linkAt m w s l)) → SplitLevels (l + 1) x
+    next-level {x} ex = relinked H b-in (p .from .levels) small g k st absentLink refl (nearerLink (place - r) (linkAt m w s l)) refl b-link x ex

@@ -6,9 +6,10 @@ use arena::LAST;
 use arena::Link;
 use arena::NEXT;
 use arena::Path;
+use arena::Rank;
 use arena::Slot;
 use arena::cell;
-use arena::last_word;
+use arena::last_slot;
 use arena::link_at;
 use arena::put_link;
 use arena::put2;
@@ -43,9 +44,11 @@ fn split_links(w: &mut [u32], m: usize, from: Slot, to: Slot, i: Index, path: Pa
 {
     let slots = path.slots;
     let ranks = path.ranks;
+    let place = Rank::before(i);
     let mut l = 0;
     while l < m {
-        split_level(w, m, l, Slot(slots[l]), to, i.0 - ranks[l]);
+        let by = place.0 - ranks[l].0;
+        split_level(w, m, l, slots[l], to, by);
         l += 1;
     }
 }
@@ -59,10 +62,10 @@ fn split(w: &mut [u32], m: usize, from: Slot, to: Slot, i: Index, path: Path)
     split_links(w, m, from, to, i, path);
     let rest = cell(w, m, from, COUNT) - i.0;
     let first = cell(w, m, end, NEXT);
-    let last = cell(w, m, from, LAST);
-    let kept = last_word(i.0, end.0);
-    let moved = last_word(rest, last);
-    put2(w, m, LAST, from, kept, to, moved);
+    let last = Slot(cell(w, m, from, LAST));
+    let kept = last_slot(i.0, end);
+    let moved = last_slot(rest, last);
+    put2(w, m, LAST, from, kept.0, to, moved.0);
     put2(w, m, NEXT, end, Slot::NONE.0, to, first);
     put2(w, m, COUNT, from, i.0, to, rest);
 }

@@ -22,7 +22,9 @@ use Rattle.model.proofs.Tests.{same, other, same?}
 use Rattle.model.proofs.Walk.{last-le, last-zero}
 use Rattle.arena.specs.Linked.{LinkIn, putLink}
 use Rattle.arena.specs.Between.{Between}
-use Rattle.arena.specs.Owners.{Before, NodeThere}
+use Rattle.arena.specs.Owners.{slotIn, rankIn, Before, NodeThere}
+use Rattle.arena.specs.declared.Slot.{Slot}
+use Rattle.arena.specs.declared.Rank.{Rank}
 use Rattle.arena.proofs.Cells.{put-front, one-down, skip-down, between-start}
 use Rattle.arena.proofs.Relink.{there, link-there, link-up, link-front}
 use Rattle.truncate.specs.Truncation.{untilFreed, Unlinked}
@@ -77,12 +79,12 @@ module _ {w₀ : List ℕ} {m a n : ℕ} (p : NodeThere w₀ m a n) where
   same-size g = g .between .size ∙ sym (none-ended .between .size)
 
   -- ---- the links ----
-  module _ {slots ranks : List ℕ} (q : Before w₀ m a n slots ranks) {l : ℕ} {w : List ℕ} (g : ChainEnded (toColumn 0) (toColumn l) w) (k : l < m) where
+  module _ {slots : List Slot} {ranks : List Rank} (q : Before w₀ m a n slots ranks) {l : ℕ} {w : List ℕ} (g : ChainEnded (toColumn 0) (toColumn l) w) (k : l < m) where
     abbrev s : ℕ
-    s = getD slots l 0
+    s = slotIn slots l
 
-    st : Stage H (suc l) s (getD ranks l 0)
-    st = stage-of (suc l) s (getD ranks l 0) (omega arith) (q .rank l k) (q .slot l k)
+    st : Stage H (suc l) s (rankIn ranks l)
+    st = stage-of (suc l) s (rankIn ranks l) (omega arith) (q .rank l k) (q .slot l k)
 
     its-column : (j : ℕ) → j < linkWords → Column (S .levels) (toColumn l + j) (field j (suc l))
     its-column j f = link-column (S .levels) l j (omega (arith, p .listed .levels)) f

@@ -10,7 +10,7 @@ use arena::Path;
 use arena::Slot;
 use arena::cell;
 use arena::header;
-use arena::last_word;
+use arena::last_slot;
 use arena::put;
 use arena::put_header;
 use arena::put_link;
@@ -34,7 +34,7 @@ fn end_links(w: &mut [u32], m: usize, list: Slot, n: Index, path: Path)
     let slots = path.slots;
     let mut l = 0;
     while l < m {
-        put_link(w, m, Slot(slots[l]), l, Link::ABSENT);
+        put_link(w, m, slots[l], l, Link::ABSENT);
         l += 1;
     }
 }
@@ -45,7 +45,7 @@ fn end_chain(w: &mut [u32], m: usize, list: Slot, n: Index, end: Slot)
     ensures { λ _. ⌜ now (w .exit) ≡
         putAt m (putAt m (putAt m (now (w .entry)) (list .0) lastColumn (cond (eqb (n .0) 0) N (end .0))) (end .0) nextColumn N) (list .0) countColumn (n .0) ⌝ }
 {
-    put(w, m, list, LAST, last_word(n.0, end.0));
+    put(w, m, list, LAST, last_slot(n.0, end).0);
     put(w, m, end, NEXT, Slot::NONE.0);
     put(w, m, list, COUNT, n.0);
 }
@@ -58,19 +58,19 @@ fn trim(w: &mut [u32], m: usize, list: Slot, n: Index, path: Path)
     let end = path.end;
     let count = cell(w, m, list, COUNT);
     let mut s = Slot(cell(w, m, end, NEXT));
-    let mut front = header(w, FIRST_FREE_WORD);
+    let mut front = Slot(header(w, FIRST_FREE_WORD));
     let free = header(w, FREE_WORD);
     end_links(w, m, list, n, path);
     end_chain(w, m, list, n, end);
     let mut i = n.0;
     while i < count {
-        let next = cell(w, m, s, NEXT);
+        let next = Slot(cell(w, m, s, NEXT));
         free_node(w, m, s, front);
-        front = s.0;
-        s = Slot(next);
+        front = s;
+        s = next;
         i += 1;
     }
-    put_header(w, FIRST_FREE_WORD, front);
+    put_header(w, FIRST_FREE_WORD, front.0);
     put_header(w, FREE_WORD, free + (count - n.0));
 }
 

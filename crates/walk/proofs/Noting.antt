@@ -12,7 +12,9 @@ use Rattle.model.specs.Passes.{nodes}
 use Rattle.model.proofs.Tests.{hit, miss, test}
 use Rattle.model.proofs.Walk.{last-le}
 use Rattle.model.proofs.Precursor.{last-node}
-use Rattle.arena.specs.Owners.{Before}
+use Rattle.arena.specs.Owners.{slotIn, rankIn, Before}
+use Rattle.arena.specs.declared.Slot.{Slot}
+use Rattle.arena.specs.declared.Rank.{Rank}
 use Rattle.walk.specs.Standing.{Standing, Sought}
 
 last-ge : (h : ℕ) (aa : List Node) (j : ℕ) → j < length aa → h ≤ at aa j .height → suc j ≤ last h aa
@@ -72,25 +74,26 @@ module _ {w : List ℕ} {m a i h s r : ℕ} (g : Standing w m a i h s r) where
       ]
 
 -- ---- the precursors noted from level k on ----
-pub record Noted (w : List ℕ) (m a i k : ℕ) (slots ranks : List ℕ) : Type 0 where
+pub record Noted (w : List ℕ) (m a i k : ℕ) (slots : List Slot) (ranks : List Rank) : Type 0 where
   pub long : (length slots ≡ 16) × (length ranks ≡ 16)
-  pub rank : (l : ℕ) → k ≤ l → l < m → getD ranks l 0 ≡ last (suc l) (take i (nodes w a))
-  pub slot : (l : ℕ) → k ≤ l → l < m → getD slots l 0 ≡ slotAt a (nodes w a) (getD ranks l 0)
+  pub rank : (l : ℕ) → k ≤ l → l < m → rankIn ranks l ≡ last (suc l) (take i (nodes w a))
+  pub slot : (l : ℕ) → k ≤ l → l < m → slotIn slots l ≡ slotAt a (nodes w a) (rankIn ranks l)
 
-pub noted-none : {w : List ℕ} {m a i : ℕ} {slots ranks : List ℕ} → (length slots ≡ 16) × (length ranks ≡ 16) → Noted w m a i m slots ranks
+pub noted-none : {w : List ℕ} {m a i : ℕ} {slots : List Slot} {ranks : List Rank} → (length slots ≡ 16) × (length ranks ≡ 16) → Noted w m a i m slots ranks
 noted-none e = record { long = e; rank = λ l p q. absurd (omega arith); slot = λ l p q. absurd (omega arith) }
 
-pub noted-all : {w : List ℕ} {m a i k : ℕ} {slots ranks : List ℕ} → k ≤ 0 → Noted w m a i k slots ranks → Before w m a i slots ranks
+pub noted-all : {w : List ℕ} {m a i k : ℕ} {slots : List Slot} {ranks : List Rank} → k ≤ 0 → Noted w m a i k slots ranks → Before w m a i slots ranks
 noted-all z n = record { rank = λ l q. n .rank l (omega arith) q; slot = λ l q. n .slot l (omega arith) q }
 
 -- one level more: the walk has stopped along stage k
-pub noted-more : {w : List ℕ} {m a i k s r : ℕ} {slots ranks : List ℕ} → 0 < k → Sought w m a i k s r → Noted w m a i k slots ranks
+pub noted-more : {w : List ℕ} {m a i k : ℕ} {s : Slot} {r : Rank} {slots : List Slot} {ranks : List Rank} → 0 < k → Sought w m a i k (s .0) (r .0) → Noted w m a i k slots ranks
     → Noted w m a i (k - 1) (set slots (k - 1) s) (set ranks (k - 1) r)
 noted-more {k = zero} z f n = absurd (omega arith)
 noted-more {w = w} {a = a} {k = suc l} {s = s} {r = r} {slots = slots} {ranks = ranks} z f n =
     let fits : l < 16 = omega (arith, f .stands .owner .level, f .stands .owner .passes .sizes .levels-most) in
-    let noted : getD (set ranks l r) l 0 ≡ r = getD-set-same ranks l r 0 (omega (arith, n .long)) in
-    let above : (j : ℕ) → suc l ≤ j → getD (set ranks l r) j 0 ≡ getD ranks j 0 = λ j y. getD-set-other ranks l j r 0 (λ z. omega arith) in
+    let noted : rankIn (set ranks l r) l ≡ r .0 = ap (λ (x : Rank). x .0) (getD-set-same ranks l r (record { 0 = 0 }) (omega (arith, n .long))) in
+    let above : (j : ℕ) → suc l ≤ j → rankIn (set ranks l r) j ≡ rankIn ranks j
+    = λ j y. ap (λ (x : Rank). x .0) (getD-set-other ranks l j r (record { 0 = 0 }) (λ z. omega arith)) in
     let e : suc l - 1 ≡ l = omega arith in
     rw e (record {
       long = (length-set slots l s ∙ n .long .0, length-set ranks l r ∙ n .long .1);
@@ -99,9 +102,9 @@ noted-more {w = w} {a = a} {k = suc l} {s = s} {r = r} {slots = slots} {ranks = 
         | miss t y ↦ let z : j ≡ l = omega arith in rw z (noted ∙ f .last-one)
       ];
       slot = λ j p q. elim (test (suc l) j) [
-        | hit t y ↦ getD-set-other slots l j s 0 (λ z. omega arith) ∙ n .slot j y q ∙ ap (slotAt a (nodes w a)) (sym (above j y))
+        | hit t y ↦ ap (λ (x : Slot). x .0) (getD-set-other slots l j s (record { 0 = 0 }) (λ z. omega arith)) ∙ n .slot j y q ∙ ap (slotAt a (nodes w a)) (sym (above j y))
         | miss t y ↦
             let z : j ≡ l = omega arith in
-            rw z (getD-set-same slots l s 0 (omega (arith, n .long)) ∙ f .stands .owner .slot-is ∙ ap (slotAt a (nodes w a)) (sym noted))
+            rw z (ap (λ (x : Slot). x .0) (getD-set-same slots l s (record { 0 = 0 }) (omega (arith, n .long))) ∙ f .stands .owner .slot-is ∙ ap (slotAt a (nodes w a)) (sym noted))
       ];
     })

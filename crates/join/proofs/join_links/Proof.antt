@@ -31,22 +31,22 @@ Turn = tie.In-loop Inv-loop μ-loop
 loop-holds : tie.Need-loop-holds Inv-loop μ-loop
 loop-holds c = ((λ a p en q. no-level p), omega arith)
 
-mul-t14 : tie.Need-mul-t14 Inv-loop μ-loop
-mul-t14 c = search needs
+mul-by : tie.Need-mul-by Inv-loop μ-loop
+mul-by c = search needs
 
-array-read-t17 : tie.Need-array-read-t17 Inv-loop μ-loop
-array-read-t17 c = search needs
+element-copy-out-by : tie.Need-element-copy-out-by Inv-loop μ-loop
+element-copy-out-by c = search needs
+
+sub-by : tie.Need-sub-by Inv-loop μ-loop
+sub-by c =
+    let (start, turn) : Start × Turn = search in
+    rank-le (start .pre .0 .0) (start .pre .1) (start .pre .0 .1 .before) (turn .loop-test .taken)
 
 mul-join-level : tie.Need-mul-join-level Inv-loop μ-loop
 mul-join-level c = search needs
 
-array-read-join-level : tie.Need-array-read-join-level Inv-loop μ-loop
-array-read-join-level c = search needs
-
-sub-join-level : tie.Need-sub-join-level Inv-loop μ-loop
-sub-join-level c =
-    let (start, turn) : Start × Turn = search in
-    rank-le (start .pre .0 .0) (start .pre .1) (start .pre .0 .1 .before) (turn .loop-test .taken)
+array-copy-out-join-level : tie.Need-array-copy-out-join-level Inv-loop μ-loop
+array-copy-out-join-level c = search needs
 
 join-level-requires : tie.Need-join-level-requires Inv-loop μ-loop
 join-level-requires c κs =
@@ -82,5 +82,5 @@ returns c =
 pub join-links-spec : {M : Type 1} → statement M
 join-links-spec =
     tie.close
-    (tie.spec Inv-loop μ-loop loop-holds mul-t14 array-read-t17 mul-join-level array-read-join-level sub-join-level join-level-requires
+    (tie.spec Inv-loop μ-loop loop-holds mul-by element-copy-out-by sub-by mul-join-level array-copy-out-join-level join-level-requires
     add-l loop-less loop-again same-length returns)

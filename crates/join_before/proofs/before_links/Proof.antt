@@ -32,22 +32,22 @@ loop-holds c =
     let start : Start = search in
     (no-level (start .pre .0 .0), omega arith)
 
-mul-t14 : tie.Need-mul-t14 Inv-loop μ-loop
-mul-t14 c = search needs
+mul-by : tie.Need-mul-by Inv-loop μ-loop
+mul-by c = search needs
 
-array-read-t17 : tie.Need-array-read-t17 Inv-loop μ-loop
-array-read-t17 c = search needs
+element-copy-out-by : tie.Need-element-copy-out-by Inv-loop μ-loop
+element-copy-out-by c = search needs
+
+sub-by : tie.Need-sub-by Inv-loop μ-loop
+sub-by c =
+    let (start, turn) : Start × Turn = search in
+    rank-le (start .pre .0 .0) (start .pre .1) (start .pre .0 .1 .before) (turn .loop-test .taken)
 
 mul-before-level : tie.Need-mul-before-level Inv-loop μ-loop
 mul-before-level c = search needs
 
-array-read-before-level : tie.Need-array-read-before-level Inv-loop μ-loop
-array-read-before-level c = search needs
-
-sub-before-level : tie.Need-sub-before-level Inv-loop μ-loop
-sub-before-level c =
-    let (start, turn) : Start × Turn = search in
-    rank-le (start .pre .0 .0) (start .pre .1) (start .pre .0 .1 .before) (turn .loop-test .taken)
+array-copy-out-before-level : tie.Need-array-copy-out-before-level Inv-loop μ-loop
+array-copy-out-before-level c = search needs
 
 before-level-requires : tie.Need-before-level-requires Inv-loop μ-loop
 before-level-requires c κs =
@@ -84,5 +84,5 @@ returns c =
 pub before-links-spec : {M : Type 1} → statement M
 before-links-spec =
     tie.close
-    (tie.spec Inv-loop μ-loop loop-holds mul-t14 array-read-t17 mul-before-level array-read-before-level sub-before-level before-level-requires
+    (tie.spec Inv-loop μ-loop loop-holds mul-by element-copy-out-by sub-by mul-before-level array-copy-out-before-level before-level-requires
     add-l loop-less loop-again same-length returns)

@@ -14,7 +14,7 @@ use Rattle.level_links.proofs.insert_links.Tie as tie
 
 abbrev Inv-loop : tie.InvT-loop
 Inv-loop w₀ m key height o slots ranks place h l₀ w l =
-    ((a i : ℕ) → place ≡ i → CanInsert w₀ m a i key height → Before w₀ m a i slots ranks
+    ((a i : ℕ) → place .0 ≡ i → CanInsert w₀ m a i key height → Before w₀ m a i slots ranks
     → Relinked (decode w₀) (insertedAt (decode w₀) a i key height) (take 8 w₀) m l w)
     × (l ≤ m)
 
@@ -39,24 +39,24 @@ wide-requires c κs = search needs
 loop-holds : tie.Need-loop-holds Inv-loop μ-loop
 loop-holds c = ((λ a i e p q. insert-start p), omega arith)
 
-mul-t19 : tie.Need-mul-t19 Inv-loop μ-loop
-mul-t19 c = search needs
+mul-back : tie.Need-mul-back Inv-loop μ-loop
+mul-back c = search needs
 
-array-read-t22 : tie.Need-array-read-t22 Inv-loop μ-loop
-array-read-t22 c = search needs
+element-copy-out-back : tie.Need-element-copy-out-back Inv-loop μ-loop
+element-copy-out-back c = search needs
 
-mul-insert-level : tie.Need-mul-insert-level Inv-loop μ-loop
-mul-insert-level c = search needs
-
-array-read-insert-level : tie.Need-array-read-insert-level Inv-loop μ-loop
-array-read-insert-level c = search needs
-
-sub-insert-level : tie.Need-sub-insert-level Inv-loop μ-loop
-sub-insert-level c =
+sub-back : tie.Need-sub-back Inv-loop μ-loop
+sub-back c =
     let (start, place, loop, turn) : Start × Place × Loop × tie.In-loop Inv-loop μ-loop = search in
     let (p, q) = start .pre .0 in
     let e = place .before2 .ensures in
     rank-le p (q .before) (loop .loop .inv .0 _ _ e p (q .before)) (turn .loop-test .taken) e
+
+mul-insert-level : tie.Need-mul-insert-level Inv-loop μ-loop
+mul-insert-level c = search needs
+
+array-copy-out-insert-level : tie.Need-array-copy-out-insert-level Inv-loop μ-loop
+array-copy-out-insert-level c = search needs
 
 insert-level-requires : tie.Need-insert-level-requires Inv-loop μ-loop
 insert-level-requires c κs =
@@ -106,11 +106,11 @@ insert-links-spec =
     before-requires
     wide-requires
     loop-holds
-    mul-t19
-    array-read-t22
+    mul-back
+    element-copy-out-back
+    sub-back
     mul-insert-level
-    array-read-insert-level
-    sub-insert-level
+    array-copy-out-insert-level
     insert-level-requires
     add-l
     loop-less

@@ -15,7 +15,7 @@ use Rattle.level_links.proofs.remove_links.Tie as tie
 
 abbrev Inv-loop : tie.InvT-loop
 Inv-loop w₀ m o h slots ranks place l₀ w l =
-    ((a i : ℕ) → place ≡ i → NodeThere w₀ m a i → Before w₀ m a i slots ranks → NodeIs w₀ a i (o .0) h
+    ((a i : ℕ) → place .0 ≡ i → NodeThere w₀ m a i → Before w₀ m a i slots ranks → NodeIs w₀ a i (o .0) h
     → Relinked (decode w₀) (doRemove (decode w₀) a i) (take 8 w₀) m l w)
     × (l ≤ m)
 
@@ -37,24 +37,24 @@ before-requires c κs = search needs
 loop-holds : tie.Need-loop-holds Inv-loop μ-loop
 loop-holds c = ((λ a i e p q d. remove-start p), omega arith)
 
-mul-t17 : tie.Need-mul-t17 Inv-loop μ-loop
-mul-t17 c = search needs
+mul-back : tie.Need-mul-back Inv-loop μ-loop
+mul-back c = search needs
 
-array-read-t20 : tie.Need-array-read-t20 Inv-loop μ-loop
-array-read-t20 c = search needs
+element-copy-out-back : tie.Need-element-copy-out-back Inv-loop μ-loop
+element-copy-out-back c = search needs
 
-mul-remove-level : tie.Need-mul-remove-level Inv-loop μ-loop
-mul-remove-level c = search needs
-
-array-read-remove-level : tie.Need-array-read-remove-level Inv-loop μ-loop
-array-read-remove-level c = search needs
-
-sub-remove-level : tie.Need-sub-remove-level Inv-loop μ-loop
-sub-remove-level c =
+sub-back : tie.Need-sub-back Inv-loop μ-loop
+sub-back c =
     let (start, place, loop, turn) : Start × Place × Loop × tie.In-loop Inv-loop μ-loop = search in
     let (p, q) = start .pre .0 in
     let e = place .before2 .ensures in
     rank-le p (q .before) (loop .loop .inv .0 _ _ e p (q .before) (start .pre .1)) (turn .loop-test .taken) e
+
+mul-remove-level : tie.Need-mul-remove-level Inv-loop μ-loop
+mul-remove-level c = search needs
+
+array-copy-out-remove-level : tie.Need-array-copy-out-remove-level Inv-loop μ-loop
+array-copy-out-remove-level c = search needs
 
 remove-level-requires : tie.Need-remove-level-requires Inv-loop μ-loop
 remove-level-requires c κs =
@@ -97,11 +97,11 @@ remove-links-spec =
     μ-loop
     before-requires
     loop-holds
-    mul-t17
-    array-read-t20
+    mul-back
+    element-copy-out-back
+    sub-back
     mul-remove-level
-    array-read-remove-level
-    sub-remove-level
+    array-copy-out-remove-level
     remove-level-requires
     add-l
     loop-less

@@ -1,16 +1,15 @@
 -- `levelling::step_over` meets its contract: after l turns the first l precursors are the node.
 use borrow.Author.Needs.{needs}
 use Prim.Native.Nat.{_-_}
-use mathlib.Core.Path.{refl}
 use Rattle.levelling.proofs.Filling.{BothFilled, both-start, both-turn, both-end}
 use Rattle.levelling.proofs.step_over.Statement.{statement}
 use Rattle.levelling.proofs.step_over.Tie as tie
 
 abbrev Inv-loop : tie.InvT-loop
-Inv-loop slot h slots₀ ranks₀ s r l₀ slots ranks l = BothFilled slots₀ ranks₀ s r h slots ranks l
+Inv-loop slot rank h slots₀ ranks₀ l₀ slots ranks l = BothFilled slots₀ ranks₀ slot rank h slots ranks l
 
 abbrev μ-loop : tie.MeasureT-loop
-μ-loop slot h slots₀ ranks₀ s r l₀ slots ranks l = h - l
+μ-loop slot rank h slots₀ ranks₀ l₀ slots ranks l = h - l
 
 loop-holds : tie.Need-loop-holds Inv-loop μ-loop
 loop-holds c =
@@ -20,14 +19,14 @@ loop-holds c =
 mul-slots : tie.Need-mul-slots Inv-loop μ-loop
 mul-slots c = search needs
 
-array-write-slots : tie.Need-array-write-slots Inv-loop μ-loop
-array-write-slots c = search needs
+array-set-from-slots : tie.Need-array-set-from-slots Inv-loop μ-loop
+array-set-from-slots c = search needs
 
 mul-ranks : tie.Need-mul-ranks Inv-loop μ-loop
 mul-ranks c = search needs
 
-array-write-ranks : tie.Need-array-write-ranks Inv-loop μ-loop
-array-write-ranks c = search needs
+array-set-from-ranks : tie.Need-array-set-from-ranks Inv-loop μ-loop
+array-set-from-ranks c = search needs
 
 add-l : tie.Need-add-l Inv-loop μ-loop
 add-l c = search needs
@@ -43,7 +42,7 @@ loop-again c =
 returns : tie.Need-returns Inv-loop μ-loop
 returns c =
     let loop : tie.At-loop Inv-loop μ-loop = search in
-    both-end (loop .loop .inv) (c .loop-test .left) _ refl
+    both-end (loop .loop .inv) (c .loop-test .left)
 
 pub step-over-spec : {M : Type 1} → statement M
 step-over-spec =
@@ -53,9 +52,9 @@ step-over-spec =
     μ-loop
     loop-holds
     mul-slots
-    array-write-slots
+    array-set-from-slots
     mul-ranks
-    array-write-ranks
+    array-set-from-ranks
     add-l
     loop-less
     loop-again

@@ -3,8 +3,8 @@ use borrow.Author.Needs.{needs}
 use Rattle.truncate.proofs.end_chain.Statement.{statement}
 use Rattle.truncate.proofs.end_chain.Tie as tie
 
-last-word-requires : tie.Need-last-word-requires
-last-word-requires c κs = search needs
+last-slot-requires : tie.Need-last-slot-requires
+last-slot-requires c κs = search needs
 
 put-requires : tie.Need-put-requires
 put-requires c κs = search needs
@@ -22,4 +22,4 @@ returns : tie.Need-returns
 returns c = cc
 
 pub end-chain-spec : {M : Type 1} → statement M
-end-chain-spec = tie.close (tie.spec last-word-requires put-requires put-requires-2 put-requires-3 same-length returns)
+end-chain-spec = tie.close (tie.spec last-slot-requires put-requires put-requires-2 put-requires-3 same-length returns)

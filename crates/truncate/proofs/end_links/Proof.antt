@@ -5,13 +5,14 @@ use native.Mathlib.Omega.{arith}
 use borrow.Author.Needs.{needs}
 use Rattle.model.specs.Arena.{toColumn}
 use Rattle.arena.specs.Owners.{Before, NodeThere}
+use Rattle.arena.specs.declared.Rank.{Rank}
 use Rattle.truncate.proofs.Ending.{ChainEnded, none-ended, same-size, precursor-link, level-ended, unlinked}
 use Rattle.truncate.proofs.end_links.Statement.{statement}
 use Rattle.truncate.proofs.end_links.Tie as tie
 
 abbrev Inv-loop : tie.InvT-loop
 Inv-loop w₀ m slots l₀ w l =
-    ((a n : ℕ) (p : NodeThere w₀ m a n) (ranks : List ℕ) → Before w₀ m a n slots ranks → ChainEnded p (toColumn 0) (toColumn l) w) × (l ≤ m)
+    ((a n : ℕ) (p : NodeThere w₀ m a n) (ranks : List Rank) → Before w₀ m a n slots ranks → ChainEnded p (toColumn 0) (toColumn l) w) × (l ≤ m)
 
 abbrev μ-loop : tie.MeasureT-loop
 μ-loop w₀ m slots l₀ w l = m - l
@@ -28,11 +29,11 @@ Turn = tie.In-loop Inv-loop μ-loop
 loop-holds : tie.Need-loop-holds Inv-loop μ-loop
 loop-holds c = ((λ a n p ranks q. none-ended p), omega arith)
 
-mul-t12 : tie.Need-mul-t12 Inv-loop μ-loop
-mul-t12 c = search needs
+mul-put-link : tie.Need-mul-put-link Inv-loop μ-loop
+mul-put-link c = search needs
 
-array-read-t15 : tie.Need-array-read-t15 Inv-loop μ-loop
-array-read-t15 c = search needs
+array-copy-out-put-link : tie.Need-array-copy-out-put-link Inv-loop μ-loop
+array-copy-out-put-link c = search needs
 
 put-link-requires : tie.Need-put-link-requires Inv-loop μ-loop
 put-link-requires c κs =
@@ -69,4 +70,4 @@ returns c =
 pub end-links-spec : {M : Type 1} → statement M
 end-links-spec =
     tie.close
-    (tie.spec Inv-loop μ-loop loop-holds mul-t12 array-read-t15 put-link-requires add-l loop-less loop-again same-length returns)
+    (tie.spec Inv-loop μ-loop loop-holds mul-put-link array-copy-out-put-link put-link-requires add-l loop-less loop-again same-length returns)

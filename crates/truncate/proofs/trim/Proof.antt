@@ -15,7 +15,7 @@ use Rattle.truncate.proofs.trim.Tie as tie
 
 abbrev Inv-loop : tie.InvT-loop
 Inv-loop w₀ m n count s₀ front₀ free i₀ w s front i =
-    (v : List ℕ) (a : ℕ) (p : NodeThere v m a (n .0)) → count ≡ length (nodes v a) → Freeing p i₀ (s₀ .0) front₀ w₀ → Freeing p i (s .0) front w
+    (v : List ℕ) (a : ℕ) (p : NodeThere v m a (n .0)) → count ≡ length (nodes v a) → Freeing p i₀ (s₀ .0) (front₀ .0) w₀ → Freeing p i (s .0) (front .0) w
 
 abbrev μ-loop : tie.MeasureT-loop
 μ-loop w₀ m n count s₀ front₀ free i₀ w s front i = count - i
@@ -58,7 +58,7 @@ started c =
     let e = b .start .pre .1 .end in
     free-start p e (b .s .cell2 .ensures) (b .front .header .ensures) (ended p e (b .links .end-links .ensures) (b .chain .end-chain .ensures))
 
-now-freeing : (c : Head) → Freeing (begun (c .before) .start .pre .0) (c .loop .i) (c .loop .s .0) (c .loop .front) (c .loop .w)
+now-freeing : (c : Head) → Freeing (begun (c .before) .start .pre .0) (c .loop .i) (c .loop .s .0) (c .loop .front .0) (c .loop .w)
 now-freeing c =
     let b = begun (c .before) in
     let p = b .start .pre .0 in

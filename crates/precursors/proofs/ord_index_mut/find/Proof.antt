@@ -73,14 +73,14 @@ sub-l c = search needs
 mul-slots : tie.Need-mul-slots Inv-loop μ-loop
 mul-slots c = search needs
 
-array-write-slots : tie.Need-array-write-slots Inv-loop μ-loop
-array-write-slots c = search needs
+array-set-from-slots : tie.Need-array-set-from-slots Inv-loop μ-loop
+array-set-from-slots c = search needs
 
 mul-ranks : tie.Need-mul-ranks Inv-loop μ-loop
 mul-ranks c = search needs
 
-array-write-ranks : tie.Need-array-write-ranks Inv-loop μ-loop
-array-write-ranks c = search needs
+array-set-from-ranks : tie.Need-array-set-from-ranks Inv-loop μ-loop
+array-set-from-ranks c = search needs
 
 loop-less : tie.Need-loop-less Inv-loop μ-loop
 loop-less c = search needs
@@ -177,9 +177,9 @@ find-spec =
     goes-below-requires
     sub-l
     mul-slots
-    array-write-slots
+    array-set-from-slots
     mul-ranks
-    array-write-ranks
+    array-set-from-ranks
     loop-less
     loop-again
     stop-requires
