@@ -1,22 +1,22 @@
--- Demand 3 of every search that keeps its promise, on any words that pass and with any arguments. Rests on Limits, StoredWalks and Runs.
+-- Demand 3 of every search that keeps its promise, on any words that pass and with any arguments. Rests on Limits, StoredWalks and Slices.
 use Prim.Native.Nat.{ℕ, suc, _+_, _*_, _^_, _≤_, _<_}
 use mathlib.Core.Path.{_≡_, sym, ap, _∙_, subst}
 use mathlib.Core.List.{List, _∷_}
 use lib.ListN.{length}
 use native.Mathlib.Omega.{arith}
 use Rattle.model.specs.Arena.{State, listOf}
-use Rattle.model.specs.Calls.{Call, Answer, search, level, refusal, answerTo, resultOf, Promise}
+use Rattle.model.specs.Calls.{Answer, search, level, refusal, answerTo, Promise}
 use Rattle.model.specs.Gaps.{gap, comparisons, AllOnlyTruncate}
 use Rattle.model.specs.Nodes.{smallerKeys}
 use Rattle.model.specs.Passes.{Passes, decode, nodes}
-use Rattle.model.specs.Sequences.{resultsOf, Run}
+use Rattle.model.specs.Slices.{Act, calling, Reply, History, after}
 use Rattle.model.specs.StoredWalks.{keyWalkStored}
 use Rattle.model.specs.Walks.{End, ended}
 use Rattle.model.proofs.Allowed.{allowed}
 use Rattle.model.proofs.CallAnswers.{declined-number}
 use Rattle.model.proofs.Keeps.{sorted-list, low-list}
-use Rattle.model.proofs.Limits.{within-rank as by-rank, within-gap as by-gap, search-levelled}
-use Rattle.model.proofs.Runs.{run-leaves, run-passes}
+use Rattle.model.proofs.Limits.{within-rank as by-rank, within-gap as by-gap, within-levelled as by-level, IsLevelled, all-levelled}
+use Rattle.model.proofs.Slices.{history-leaves}
 use Rattle.model.proofs.StoredWalks.{key-walk-stored}
 use Rattle.model.proofs.Tests.{same, other, same?, hit, miss, test}
 
@@ -54,12 +54,10 @@ module _ {w u : List ℕ} {a k allowance : ℕ} {r : Answer} (p : Promise (searc
 
 -- "Directly after a levelling of that list, or after truncations of it following one with no other change to it", with fewer than 2^(M+1) keys, at
 -- most 2M + 2: any calls may come between that leave list a as it was or truncate it.
-pub within-levelled : {w u v : List ℕ} {a k allowance : ℕ} {cs : List Call} {rs : List Answer} {r : Answer} → Passes w → Run w (level a ∷ cs) rs u
-    → AllOnlyTruncate a (resultOf (decode w) (level a)) cs → Promise (search a k allowance) u v r → length (nodes u a) < 2 ^ suc (decode u .levels)
+pub within-levelled : {w u v : List ℕ} {a k allowance : ℕ} {acts : List Act} {rs : List Reply} {r : Answer} → Passes w → History w (calling (level a) ∷ acts) rs u
+    → AllOnlyTruncate a (after (decode w) (calling (level a))) acts → Promise (search a k allowance) u v r → length (nodes u a) < 2 ^ suc (decode u .levels)
     → r .tally ≤ 2 * decode u .levels + 2
-within-levelled {w} {u} {a} {k} {allowance} {cs} q run only p few =
-    let T = resultsOf (decode w) (level a ∷ cs) in
-    let e = run-leaves run q in
-    let passes : Passes u = run-passes run q in
-    let limit = search-levelled (decode w) (q .sound) a cs k only in
-    omega (arith, no-more p passes, subst (λ (S : State). length (listOf S a) < 2 ^ suc (S .levels) → comparisons (S .levels) k (listOf S a) ≤ 2 * S .levels + 2) (sym e) limit few)
+within-levelled {w} {u} {a} {k} {acts = acts} q history only p few =
+    let (passes, e) = history-leaves q history in
+    let levelled = subst (IsLevelled a) (sym e) (all-levelled (decode w) a acts only) .levelled in
+    omega (arith, no-more p passes, by-level (decode u .levels) k (nodes u a) (sorted-list (decode u) (passes .sound) a) levelled few)

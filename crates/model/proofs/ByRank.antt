@@ -12,7 +12,6 @@ use native.Mathlib.Nat.{zero-add, add-zero, suc-sub-suc}
 use native.Mathlib.Omega.{arith}
 use borrow.Author.Tests.{le-leb, lt-leb}
 use Rattle.model.specs.Closed.{last}
-use Rattle.model.specs.Claims.{rankPrecursor}
 use Rattle.model.specs.Links.{distance}
 use Rattle.model.specs.Nodes.{Node}
 use Rattle.model.specs.Walks.{alongRanks, descendRanks, rankPrecursors, nextRanks, rankWalk}
@@ -141,6 +140,10 @@ next-is t r (y ∷ ys) k = elim (same? r t) [
   | same e p ↦ rw (e, le-leb t (r + suc (length ys)) (omega arith)) (ap some p)
   | other e p ↦ let z : r + suc (length ys) ≡ suc r + length ys = omega arith in rw (e, z) (next-is t (suc r) ys (omega arith))
 ]
+
+-- the rank of the precursor of level l: `rankPrecursors` has them from the highest level down
+abbrev pub rankPrecursor : ℕ → ℕ → List Node → ℕ → ℕ
+rankPrecursor M t xs l = getD (rankPrecursors M t xs 0) (M - suc l) 0
 
 pub rank-precursor : (M t : ℕ) (xs : List Node) (l : ℕ) → l < M → rankPrecursor M t xs l ≡ last (suc l) (take (t - 1) xs)
 rank-precursor M t xs l k = precursor-from M l t xs 0 k ∙ zero-add (last (suc l) (take (t - 1 - 0) xs)) ∙ (let z : t - 1 - 0 ≡ t - 1 = omega arith in rw z refl)

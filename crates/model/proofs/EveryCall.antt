@@ -11,7 +11,6 @@ use Rattle.model.specs.Calls.{Call, search, read, insertKey, removeKey, 
 use Rattle.model.specs.Calls.{splitKey, appendList, middle, level, refusal, insertIn, performed, resultOf}
 use Rattle.model.specs.Nodes.{Node, smaller, Sorted, Low}
 use Rattle.model.specs.Passes.{decode, timesAll, timesFree, Each, Sound, Ranges, Sizes, Passes}
-use Rattle.model.specs.Sequences.{resultsOf}
 use Rattle.model.proofs.Allowed.{Allowed, allowed}
 use Rattle.model.proofs.Builds.{passes-encode}
 use Rattle.model.proofs.ByKey.{key-place, key-found}
@@ -92,11 +91,6 @@ sound-after S v c = after-any Sound S c (sound-performed S v c) v
 
 pub kept : {S : State} → Sound S → Sizes S → (c : Call) → Sound (resultOf S c) × Sizes (resultOf S c)
 kept {S} v z c = (sound-after S v c, alike-sizes (alike-after S c) z)
-
--- any number of calls
-pub sound-after-all : (S : State) → Sound S → (cs : List Call) → Sound (resultsOf S cs)
-sound-after-all S v [] = v
-sound-after-all S v (c ∷ cs) = sound-after-all (resultOf S c) (sound-after S v c) cs
 
 pub passes-after : {w : List ℕ} → Passes w → (c : Call) → Passes (encode (resultOf (decode w) c))
 passes-after {w} p c = let k = kept (p .sound) (p .sizes) c in passes-encode (resultOf (decode w) c) (k .0) (k .1)

@@ -7,7 +7,7 @@ use mathlib.Core.List.{List, [], _∷_, _++_, map-append}
 use lib.ListN.{length, take, drop, getD, set, List·getD-map}
 use lib.Seq.{getD-set-same, getD-set-other, lt-length-set}
 use native.Mathlib.Omega.{arith}
-use Rattle.model.specs.Claims.{keysAfter, often, Appended}
+use Rattle.model.specs.Claims.{often, Appended}
 use Rattle.model.specs.Arena.{State, listOf}
 use Rattle.model.specs.Calls.{Call, insertKey, removeKey, removeIndex, truncate, clear, splitAt, splitKey, appendList, level, insertIn, performed, refusal, resultOf}
 use Rattle.model.specs.Lists.{insertAt, insert, removeAt, append, levelFrom}
@@ -44,6 +44,10 @@ pub key-at : (xs : List Node) (i : ℕ) → keyAt xs i ≡ getD (keys xs) i 0
 key-at xs i = sym (List·getD-map keyOf xs i (node N 0 0))
 
 -- ---- lists after ----
+-- the keys of list a after a call
+abbrev pub keysAfter : State → Call → ℕ → List ℕ
+keysAfter S c a = keys (listOf (resultOf S c) a)
+
 pub accepted-result : (S : State) (c : Call) → refusal S c ≡ 0 → resultOf S c ≡ performed S c
 accepted-result S c p = rw p refl
 

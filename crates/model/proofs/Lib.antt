@@ -27,6 +27,7 @@ pub mod Composing
 -- words and models
 pub mod Records
 pub mod Builds
+pub mod Models
 pub mod Counting
 pub mod Apart
 pub mod Frame
@@ -44,7 +45,6 @@ pub mod Inserting
 pub mod Refusals
 pub mod CallAnswers
 pub mod Unique
-pub mod Runs
 pub mod Slices
 pub mod Bounded
 pub mod Order

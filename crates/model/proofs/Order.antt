@@ -15,7 +15,7 @@ use Rattle.model.specs.Calls.{Call, search, read, insertKey, removeKey, 
 use Rattle.model.specs.Calls.{Answer, accepted, refused, beyond, refusal, answerTo, resultOf, Room, Promise, SetUpPromise}
 use Rattle.model.specs.Refusals.{Applies, no-list, same-lists, too-high, none-free, not-empty-at, not-empty-key}
 use Rattle.model.specs.Refusals.{read-past, remove-past, split-past, no-middle, no-key, over}
-use Rattle.model.specs.Claims.{keysAfter, FoundFirst, Appended, LevelledAt, Untouched}
+use Rattle.model.specs.Claims.{FoundFirst, Appended, LevelledAt, Untouched}
 use Rattle.model.specs.Stays.{Stands, Gone}
 use Rattle.model.specs.Slices.{broken, whole}
 use Rattle.model.specs.Order.{On, Accepted, Sequences, Order}
@@ -28,12 +28,12 @@ use Rattle.model.proofs.EveryCall.{sound-after, passes-after, set-up-pa
 use Rattle.model.proofs.Frame.{refused-keeps, frame}
 use Rattle.model.proofs.Keeps.{sorted-list}
 use Rattle.model.proofs.KeysAfter.{keys-inserted, keys-removed, keys-removed-key, keys-truncated, keys-cleared, keys-split, keys-split-key, keys-appended}
-use Rattle.model.proofs.KeysAfter.{keys-levelled}
+use Rattle.model.proofs.KeysAfter.{keysAfter, keys-levelled}
 use Rattle.model.proofs.Leaves.{nodes-inserted, only-insert, truncate-nothing, truncate-frees, split-nothing, append-nothing, merge-reverses, level-heights}
 use Rattle.model.proofs.Refusals.{given-applies, lowest-given, accepted-clear, clear-accepted}
 use Rattle.model.proofs.Remain.{nodes-remain}
-use Rattle.model.proofs.Runs.{model-of, same-words}
-use Rattle.model.proofs.Limits.{refused-stays, search-stays, read-stays, middle-stays, other-stays}
+use Rattle.model.proofs.Models.{model-of, same-words}
+use Rattle.model.proofs.Limits.{set-up-stays, check-stays, refused-stays, search-stays, read-stays, middle-stays, other-stays}
 use Rattle.model.proofs.StoredWalks.{rank-walk-stored}
 use Rattle.model.proofs.Slices.{decided, fits, fails, history-is, history-unique, broken-held, whole-held}
 use Rattle.model.proofs.Stay.{nodes-stay}
@@ -222,7 +222,7 @@ order = record {
     by-gap = λ o. within-gap (o .promise) (o .passes);
     levelled = λ q run only o few. within-levelled q run only (o .promise) few;
   };
-  staying = record { refusals = refused-stays; searches = search-stays; reads = read-stays; middles = middle-stays; others = other-stays };
+  staying = record { refusals = refused-stays; set-ups = set-up-stays; checks = check-stays; searches = search-stays; reads = read-stays; middles = middle-stays; others = other-stays };
   holding = record {
     call = call-unique;
     set-up = set-up-unique;

@@ -1,17 +1,17 @@
--- Any sequence of all calls on one slice answers and leaves what the definitions say, from any words whatever. Rests on EveryCall, Runs and Unique.
+-- Any sequence of all calls on one slice answers and leaves what the definitions say, from any words whatever. Rests on EveryCall, Models and Unique.
 use Prim.Native.Nat.{ℕ, _+_, _*_}
 use mathlib.Core.Path.{_≡_, refl, sym, ap, ap₂, _∙_, subst}
-use mathlib.Core.Bool.{Bool, true, false}
-use mathlib.Core.List.{List, _∷_}
+use mathlib.Core.Bool.{Bool, true, false, cond}
+use mathlib.Core.List.{List, [], _∷_}
 use lib.ListN.{length}
 use native.Mathlib.Omega.{arith}
-use Rattle.model.specs.Arena.{State, headerWords, width}
+use Rattle.model.specs.Arena.{State, headerWords, width, encode, setUp}
 use Rattle.model.specs.Calls.{Call, Answer, Room, Promise, SetUpPromise, CheckPromise}
 use Rattle.model.specs.Passes.{decode, Passes}
 use Rattle.model.specs.Slices.{Act, settingUp, checking, calling, Reply, number, verdict, answered, Keeps, set-up, check, call, History, nothing, first}
-use Rattle.model.specs.Slices.{Held, broken, whole, wordsIn, Holds, right, reply, held, replies, heldAfter}
+use Rattle.model.specs.Slices.{Held, broken, whole, wordsIn, Holds, right, reply, held, afterAll, after, replies, heldAfter}
 use Rattle.model.proofs.EveryCall.{kept, set-up-sound, set-up-sizes}
-use Rattle.model.proofs.Runs.{passes-model, model-of}
+use Rattle.model.proofs.Models.{passes-model, model-of}
 use Rattle.model.proofs.Tests.{hit, miss, test, same, other, same?}
 use Rattle.model.proofs.Unique.{call-unique, set-up-unique, check-unique}
 
@@ -75,16 +75,21 @@ record Done (h : Held) (a : Act) (u : List ℕ) (r : Reply) : Type 0 where
   told : r ≡ reply h a
   left : Holds u (held h a)
 
+set-up-held : (h : Held) (L M C : ℕ) → held h (settingUp L M C) ≡ cond (right L M C (length (wordsIn h))) (whole (setUp L M C)) h
+set-up-held (broken w) L M C = refl
+set-up-held (whole S) L M C = elim (decided L M C (length (encode S))) [ fits f r ↦ rw f refl | fails f r ↦ rw f refl ]
+
 set-up-done : {L M C n : ℕ} {w u : List ℕ} (h : Held) → Holds w h → SetUpPromise L M C w u n → Done h (settingUp L M C) u (number n)
 set-up-done {L} {M} {C} {n} {w} {u} h k p =
     let e = words-held h k in
+    let z = set-up-held h L M C in
     elim (decided L M C (length (wordsIn h))) [
       | fits f r ↦
           let a = p .right (subst (λ (v : List ℕ). Room L M C (length v)) (sym e) r) in
-          record { told = rw f (ap number (a .0)); left = rw f (a .1, set-up-sound L M C, set-up-sizes (r .ranges)) }
+          record { told = rw f (ap number (a .0)); left = rw (z, f) (a .1, set-up-sound L M C, set-up-sizes (r .ranges)) }
       | fails f r ↦
           let a = p .wrong (λ x. r (subst (λ (v : List ℕ). Room L M C (length v)) e x)) in
-          record { told = rw f (ap number (a .0)); left = rw f (subst (λ (v : List ℕ). Holds v h) (sym (a .1)) k) }
+          record { told = rw f (ap number (a .0)); left = rw (z, f) (subst (λ (v : List ℕ). Holds v h) (sym (a .1)) k) }
     ]
 
 check-done : {w : List ℕ} {b : Bool} (h : Held) → Holds w h → CheckPromise w b → Done h checking w (verdict b)
@@ -114,6 +119,17 @@ history-is h k (first {a = a} p rest) =
     let d = one-done h k p in
     let i = history-is (held h a) (d .left) rest in
     (ap₂ (λ (r : Reply) (rs : List Reply). r ∷ rs) (d .told) (i .0), i .1)
+
+-- on words that pass, what is held is the model after all
+whole-after : (S : State) (acts : List Act) → heldAfter (whole S) acts ≡ whole (afterAll S acts)
+whole-after S [] = refl
+whole-after S (a ∷ acts) = whole-after (after S a) acts
+
+pub history-leaves : {w u : List ℕ} {acts : List Act} {rs : List Reply} → Passes w → History w acts rs u → Passes u × (decode u ≡ afterAll (decode w) acts)
+history-leaves {w} {u} {acts} p r =
+    let S = afterAll (decode w) acts in
+    let k = subst (Holds u) (whole-after (decode w) acts) (history-is (whole (decode w)) (whole-held p) r .1) in
+    (passing k, model-of S (k .1) (k .0))
 
 -- from any words, calls have one history
 one-unique : {a : Act} {w u v : List ℕ} {r s : Reply} → Keeps a w u r → Keeps a w v s → (r ≡ s) × (u ≡ v)

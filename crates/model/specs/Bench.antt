@@ -1,4 +1,4 @@
--- "Bench readings": P1 to P12, as one table under a single statement, computed. Rests on Calls and Sequences.
+-- "Bench readings": P1 to P12, as one table under a single statement, computed. Rests on Calls and Slices.
 use Prim.Native.Nat.{ℕ}
 use mathlib.Core.Path.{_≡_, refl}
 use mathlib.Core.Bool.{true, false}
@@ -7,18 +7,18 @@ use Rattle.model.specs.Nodes.{Node, N, keys, slotAt}
 use Rattle.model.specs.Walks.{Stand, stand, precursors}
 use Rattle.model.specs.Arena.{State, encode, setUp, listOf}
 use Rattle.model.specs.Calls.{search, insertKey, splitAt, splitKey, appendList, middle, level, searched, plain, keyed, beyond, answerTo, resultOf}
-use Rattle.model.specs.Sequences.{resultsOf}
+use Rattle.model.specs.Slices.{calling, afterAll}
 
 -- "Q is 10, 20, 20, 30 levelled at M = 2".
 abbrev four : State
-four = resultsOf (setUp 2 2 8) (insertKey 0 10 0 ∷ insertKey 0 20 0 ∷ insertKey 0 20 0 ∷ insertKey 0 30 0 ∷ level 0 ∷ [])
+four = afterAll (setUp 2 2 8) (map calling (insertKey 0 10 0 ∷ insertKey 0 20 0 ∷ insertKey 0 20 0 ∷ insertKey 0 30 0 ∷ level 0 ∷ []))
 
 abbrev Q : List Node
 Q = listOf four 0
 
 -- P10's lists: 10, 30 and 20, 40.
 abbrev two : State
-two = resultsOf (setUp 2 2 8) (insertKey 0 10 1 ∷ insertKey 0 30 0 ∷ insertKey 1 20 0 ∷ insertKey 1 40 2 ∷ [])
+two = afterAll (setUp 2 2 8) (map calling (insertKey 0 10 1 ∷ insertKey 0 30 0 ∷ insertKey 1 20 0 ∷ insertKey 1 40 2 ∷ []))
 
 -- The precursor of a level: its slot and its rank.
 abbrev placed : List Stand → List (List ℕ)

@@ -1,25 +1,20 @@
--- What the theorems about walks and calls say, besides the promises. Rests on Walks, Arena and Calls.
+-- What the theorems about walks and calls say, besides the promises. Rests on Walks, Lists, Arena and Cells.
 use Prim.Native.Nat.{ℕ, zero, suc, _+_, _-_, _≤_, _<_}
 use mathlib.Core.Path.{_≡_}
 use mathlib.Core.Bool.{cond}
 use mathlib.Core.List.{List, [], _∷_, _++_}
 use lib.Dec.{eqb}
 use lib.ListN.{length, take, drop, getD}
-use Rattle.model.specs.Nodes.{Node, node, at, keys, smallerKeys, Sorted}
-use Rattle.model.specs.Walks.{stand, precursors, rankPrecursors}
+use Rattle.model.specs.Nodes.{Node, node, at, smallerKeys, Sorted}
+use Rattle.model.specs.Walks.{stand, precursors}
 use Rattle.model.specs.Lists.{twos}
 use Rattle.model.specs.Arena.{State, listOf, encode}
 use Rattle.model.specs.Cells.{recordAt}
-use Rattle.model.specs.Calls.{Call, resultOf}
 
 -- ---- the walks: "Consequences to be proved" ----
 -- The rank of the precursor of level l: `precursors` has them from the highest level down.
 abbrev pub precursorRank : ℕ → ℕ → List Node → ℕ → ℕ
 precursorRank M t xs l = getD (precursors M t xs (stand 0 0)) (M - suc l) (stand 0 0) .rank
-
--- The rank of the precursor of level l.
-abbrev pub rankPrecursor : ℕ → ℕ → List Node → ℕ → ℕ
-rankPrecursor M t xs l = getD (rankPrecursors M t xs 0) (M - suc l) 0
 
 -- r is the rank of the last node of height h or more whose key is below t, or 0, the head's
 pub record LastBelow (h t : ℕ) (xs : List Node) (r : ℕ) : Type 0 where
@@ -35,10 +30,7 @@ pub record FoundFirst (t : ℕ) (xs : List Node) (r : ℕ) : Type 0 where
   pub first : (i : ℕ) → i < r → at xs i .key < t
 
 -- ---- key sequences ----
--- the keys of list a after a call
-abbrev pub keysAfter : State → Call → ℕ → List ℕ
-keysAfter S c a = keys (listOf (resultOf S c) a)
-
+-- how often key k stands in a list
 abbrev pub often : ℕ → List Node → ℕ
 often k [] = zero
 often k (y ∷ ys) = cond (eqb (y .key) k) (suc (often k ys)) (often k ys)

@@ -1,4 +1,4 @@
--- Levelled lists, the largest gap of a list (request K10), and what demand 3 says of searches. Rests on Nodes, Lists and Calls.
+-- Levelled lists, the largest gap of a list (request K10), and what demand 3 says of searches. Rests on Nodes, Lists, Calls and Slices.
 use Prim.Native.Nat.{ℕ, zero, suc, max}
 use mathlib.Core.Path.{_≡_}
 use mathlib.Core.Bool.{cond}
@@ -8,7 +8,8 @@ use Rattle.model.specs.Nodes.{Node}
 use Rattle.model.specs.Lists.{twos}
 use Rattle.model.specs.Walks.{ended, keyWalk}
 use Rattle.model.specs.Arena.{State, listOf}
-use Rattle.model.specs.Calls.{Call, truncate, clear, resultOf}
+use Rattle.model.specs.Calls.{truncate, clear}
+use Rattle.model.specs.Slices.{Act, calling, after}
 
 -- The node of rank k has the height that levelling gives it, and so have those after it.
 abbrev pub Levelled : ℕ → ℕ → List Node → Type 0
@@ -33,11 +34,11 @@ comparisons M t xs = ended (keyWalk M t xs) .tally
 
 -- "Directly after a levelling of that list, or after truncations of it following one with no other change to it": the call leaves list a as it was,
 -- or truncates it ("Clear is truncate to 0").
-pub data OnlyTruncates (a : ℕ) (S : State) (c : Call) : Type 0 where
-  stays : listOf (resultOf S c) a ≡ listOf S a → OnlyTruncates a S c
-  truncates : (n : ℕ) → c ≡ truncate a n → OnlyTruncates a S c
-  clears : c ≡ clear a → OnlyTruncates a S c
+pub data OnlyTruncates (a : ℕ) (S : State) (act : Act) : Type 0 where
+  stays : listOf (after S act) a ≡ listOf S a → OnlyTruncates a S act
+  truncates : (n : ℕ) → act ≡ calling (truncate a n) → OnlyTruncates a S act
+  clears : act ≡ calling (clear a) → OnlyTruncates a S act
 
-abbrev pub AllOnlyTruncate : ℕ → State → List Call → Type 0
+abbrev pub AllOnlyTruncate : ℕ → State → List Act → Type 0
 AllOnlyTruncate a S [] = Unit {0}
-AllOnlyTruncate a S (c ∷ cs) = OnlyTruncates a S c × AllOnlyTruncate a (resultOf S c) cs
+AllOnlyTruncate a S (act ∷ acts) = OnlyTruncates a S act × AllOnlyTruncate a (after S act) acts

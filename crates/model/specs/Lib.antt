@@ -12,7 +12,6 @@ pub mod Calls
 pub mod Refusals
 pub mod Claims
 pub mod Stays
-pub mod Sequences
 pub mod Slices
 pub mod Gaps
 pub mod Bench

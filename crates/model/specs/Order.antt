@@ -9,14 +9,13 @@ use lib.ListN.{length, take, drop, getD}
 use Rattle.model.specs.Nodes.{Node, at, keys, keyAt, smallerKeys}
 use Rattle.model.specs.Walks.{ended, rankWalk}
 use Rattle.model.specs.Lists.{insert, mergeIn}
-use Rattle.model.specs.Arena.{State, listOf, firstFree, lastSlot}
+use Rattle.model.specs.Arena.{State, listOf, firstFree, lastSlot, encode}
 use Rattle.model.specs.Passes.{decode, nodes, Sound, Passes, Clauses}
 use Rattle.model.specs.StoredWalks.{keyWalkStored, rankWalkStored, footingAt}
 use Rattle.model.specs.Calls.{Call, search, read, insertKey, removeKey, removeIndex, truncate, clear, splitAt, splitKey, appendList, middle, level}
-use Rattle.model.specs.Calls.{names, Unnamed, Answer, refused, beyond, refusal, resultOf, Promise, SetUpPromise, CheckPromise}
+use Rattle.model.specs.Calls.{names, Unnamed, Answer, refused, beyond, refusal, resultOf, Room, Promise, SetUpPromise, CheckPromise}
 use Rattle.model.specs.Refusals.{Applies}
-use Rattle.model.specs.Sequences.{Run}
-use Rattle.model.specs.Slices.{Act, Reply, History, Holds, replies, heldAfter, broken, whole}
+use Rattle.model.specs.Slices.{Act, settingUp, checking, calling, Reply, History, Holds, after, replies, heldAfter, broken, whole}
 use Rattle.model.specs.Claims.{precursorRank, LastBelow, FoundFirst, Appended, Inserted, only, backwards, LevelledAt, Untouched}
 use Rattle.model.specs.Stays.{Stands, Stated, Gone}
 use Rattle.model.specs.Gaps.{gap, OnlyTruncates, AllOnlyTruncate}
@@ -95,17 +94,19 @@ pub record Bounding : Type 0 where
   pub precursors : {w : List ℕ} → Passes w → (a k l : ℕ) → l < decode w .levels → LastBelow (suc l) k (nodes w a) (precursorRank (decode w .levels) k (nodes w a) l)
   pub by-rank : {a k allowance : ℕ} {w u : List ℕ} {r : Answer} → On (search a k allowance) w u r → r .tally ≤ smallerKeys k (nodes w a) + decode w .levels + 1
   pub by-gap : {a k allowance : ℕ} {w u : List ℕ} {r : Answer} → On (search a k allowance) w u r → r .tally ≤ (gap (decode w .levels) (nodes w a) + 1) * (decode w .levels + 1)
-  pub levelled : {w u v : List ℕ} {a k allowance : ℕ} {cs : List Call} {rs : List Answer} {r : Answer} → Passes w → Run w (level a ∷ cs) rs u
-      → AllOnlyTruncate a (resultOf (decode w) (level a)) cs → On (search a k allowance) u v r → length (nodes u a) < 2 ^ suc (decode u .levels)
+  pub levelled : {w u v : List ℕ} {a k allowance : ℕ} {acts : List Act} {rs : List Reply} {r : Answer} → Passes w → History w (calling (level a) ∷ acts) rs u
+      → AllOnlyTruncate a (after (decode w) (calling (level a))) acts → On (search a k allowance) u v r → length (nodes u a) < 2 ^ suc (decode u .levels)
       → r .tally ≤ 2 * decode u .levels + 2
 
 -- Which calls leave list a as it was: those that are refused, that only read, and that name other lists.
 pub record Staying : Type 0 where
-  pub refusals : (S : State) (a : ℕ) (c : Call) → refusal S c ≢ 0 → OnlyTruncates a S c
-  pub searches : (S : State) (a b k allowance : ℕ) → OnlyTruncates a S (search b k allowance)
-  pub reads : (S : State) (a b i : ℕ) → OnlyTruncates a S (read b i)
-  pub middles : (S : State) (a b : ℕ) → OnlyTruncates a S (middle b)
-  pub others : (S : State) (a : ℕ) (c : Call) → Unnamed a (names c) → OnlyTruncates a S c
+  pub refusals : (S : State) (a : ℕ) (c : Call) → refusal S c ≢ 0 → OnlyTruncates a S (calling c)
+  pub set-ups : (S : State) (a L M C : ℕ) → ¬ Room L M C (length (encode S)) → OnlyTruncates a S (settingUp L M C)
+  pub checks : (S : State) (a : ℕ) → OnlyTruncates a S checking
+  pub searches : (S : State) (a b k allowance : ℕ) → OnlyTruncates a S (calling (search b k allowance))
+  pub reads : (S : State) (a b i : ℕ) → OnlyTruncates a S (calling (read b i))
+  pub middles : (S : State) (a b : ℕ) → OnlyTruncates a S (calling (middle b))
+  pub others : (S : State) (a : ℕ) (c : Call) → Unnamed a (names c) → OnlyTruncates a S (calling c)
 
 -- "For every input, refusals included, each public function's promise allows one answer and one content of the lent words", also "over any sequence".
 pub record Holding : Type 0 where

@@ -51,7 +51,7 @@ all (b ∷ bs) = cond b (all bs) false
 abbrev pub right : ℕ → ℕ → ℕ → ℕ → Bool
 right L M C n = all (leb 1 L ∷ leb L 16 ∷ leb 1 M ∷ leb M 16 ∷ leb 1 C ∷ leb C 65535 ∷ eqb n (headerWords + (L + C) * width M) ∷ [])
 
--- What is answered and what is held afterwards, by the definitions.
+-- What is answered, and what is held afterwards, by the definitions.
 abbrev pub reply : Held → Act → Reply
 reply h (settingUp L M C) = number (cond (right L M C (length (wordsIn h))) 0 2)
 reply (broken w) checking = verdict false
@@ -59,11 +59,21 @@ reply (whole S) checking = verdict true
 reply (broken w) (calling c) = answered (refused 1)
 reply (whole S) (calling c) = answered (answerTo S c)
 
+-- The model after a call on a model.
+abbrev pub after : State → Act → State
+after S (settingUp L M C) = cond (right L M C (length (encode S))) (setUp L M C) S
+after S checking = S
+after S (calling c) = resultOf S c
+
+abbrev pub afterAll : State → List Act → State
+afterAll S [] = S
+afterAll S (a ∷ acts) = afterAll (after S a) acts
+
 abbrev pub held : Held → Act → Held
-held h (settingUp L M C) = cond (right L M C (length (wordsIn h))) (whole (setUp L M C)) h
-held h checking = h
+held (broken w) (settingUp L M C) = cond (right L M C (length w)) (whole (setUp L M C)) (broken w)
+held (broken w) checking = broken w
 held (broken w) (calling c) = broken w
-held (whole S) (calling c) = whole (resultOf S c)
+held (whole S) a = whole (after S a)
 
 abbrev pub replies : Held → List Act → List Reply
 replies h [] = []
