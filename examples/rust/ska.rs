@@ -1,7 +1,6 @@
 //! The calls of include/ska.h as a safe wrapper over lent words: pointer and length come from one slice, out-parameters are its own,
 //! so no call can be given memory that it may not touch. It is `no_std` and allocates nothing.
-//! The oldest compiler for it is 1.56 (edition 2021); lamp.rs needs 1.58 (names inside format strings). Both were built and run with
-//! 1.95 and with a nightly of 1.97. With older compilers they were not tried.
+//! It needs Rust 1.63 or later, and so does lamp.rs: both were built and run with 1.63 and with 1.95.
 #![no_std]
 
 use core::fmt;
