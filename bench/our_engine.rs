@@ -3,6 +3,7 @@
 
 use crate::{Call, Engine, LEVELS, NODES};
 
+#[allow(dead_code)]
 #[path = "../examples/rust/raw.rs"]
 mod raw;
 

@@ -11,9 +11,9 @@ use telling::Line;
 
 fn whole(line: Line) -> Line {
     let w = arenas::sample();
-    let line = line.said(b"three lists, one of them empty, and three free slots", &w);
+    let line = line.said(b"three lists, list 2 empty, and three free slots", &w);
     let w = arenas::full_sample();
-    line.said(b"the same with the free slots in the third list", &w)
+    line.said(b"the first one with its free slots in list 2", &w)
 }
 
 fn sizes_broken(line: Line) -> Line {

@@ -23,14 +23,14 @@ pub fn lengths(line: Line) -> Line {
 }
 
 fn cuts(line: Line, w: &[u32]) -> Line {
-    let line = cut(line, b"the same without its last slot, 96 words", w, 96);
+    let line = cut(line, b"the first one without slot 11, in 96 words", w, 96);
     let line = line.of(Clause::Length);
     let line = cut(line, b"a word too few", w, 95);
     let line = cut(line, b"a slot too few", w, 88);
     let line = cut(line, b"a word too many", w, 97);
     let line = cut(line, b"a slot too many", w, 104);
     let line = cut(line, b"seven words", w, 7);
-    cut(line, b"no words", w, 0)
+    cut(line, b"no word", w, 0)
 }
 
 fn cut(line: Line, what: &[u8], w: &[u32], n: usize) -> Line {
@@ -42,11 +42,11 @@ fn cut(line: Line, what: &[u8], w: &[u32], n: usize) -> Line {
 
 pub fn headers(line: Line) -> Line {
     let line = line.of(Clause::Header);
-    let line = with_header(line, b"another mark", arena::MARK_WORD, 4279124);
+    let line = with_header(line, b"mark 4279124", arena::MARK_WORD, 4279124);
     let line = with_header(line, b"version 2", arena::VERSION_WORD, 2);
     let line = with_header(
         line,
-        b"a version of more than 16 bits",
+        b"version 65537, 1 in its low 16 bits",
         arena::VERSION_WORD,
         65537,
     );

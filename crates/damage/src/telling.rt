@@ -25,7 +25,7 @@ impl Clause {
             Clause::Chain => tell(b"chain"),
             Clause::LastNode => tell(b"last node"),
             Clause::Keys => tell(b"keys never fall"),
-            Clause::EachSlot => tell(b"each node slot"),
+            Clause::EachSlot => tell(b"each node slot once"),
             Clause::FreeChain => tell(b"free chain"),
             Clause::Form => tell(b"column's form"),
             Clause::Link => tell(b"link"),
