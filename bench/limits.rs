@@ -45,7 +45,12 @@ impl List {
             }
             assert_eq!(raw::ska_check(p, n), 1);
         }
-        Self { w, readings, levels, levelled }
+        Self {
+            w,
+            readings,
+            levels,
+            levelled,
+        }
     }
 
     fn of_shape(shape: &str) -> Self {
@@ -132,7 +137,11 @@ impl List {
 
     /// A search for the reading with the longest walk, refused.
     fn refusals(&self, core: bool, count: u32, allowance: u32) {
-        let rank = if self.levelled { self.longest(true) } else { self.readings };
+        let rank = if self.levelled {
+            self.longest(true)
+        } else {
+            self.readings
+        };
         assert_eq!(self.search(false, key(rank), allowance), [10, 0, 0, allowance]);
         for _ in 0..count {
             black_box(self.search(core, black_box(key(rank)), black_box(allowance)));
