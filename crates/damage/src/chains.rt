@@ -1,5 +1,5 @@
-// The clauses of the chains: their lengths and ends, the last nodes, the keys, each node slot once, the free chain. Where the other clauses need it, more
-// words than one are changed.
+// The clauses of the chains: their lengths and ends, the last nodes, the keys, each node slot once, the free chain. Where the other clauses need
+// it, more words than one are changed.
 use super::arenas::NONE;
 use super::arenas::PAST;
 use super::arenas::full_sample;
