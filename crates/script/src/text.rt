@@ -43,7 +43,7 @@ impl Text {
         t
     }
 
-    fn bytes(self, more: &[u8]) -> Text
+    pub fn bytes(self, more: &[u8]) -> Text
         ensures { λ r. ⌜ Grown self (now (more .entry)) r ⌝ }
     {
         let mut t = self;

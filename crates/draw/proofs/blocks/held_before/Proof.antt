@@ -1,0 +1,31 @@
+-- `draw::blocks::held_before` meets its contract: the precursor is a node of the list, or its head.
+use Rattle.draw.proofs.Drawing.{rank-before, link-before}
+use borrow.Author.Needs.{needs}
+use Rattle.draw.proofs.blocks.held_before.Statement.{statement}
+use Rattle.draw.proofs.blocks.held_before.Tie as tie
+
+mul-t10 : tie.Need-mul-t10
+mul-t10 c = search needs
+
+array-read-t13 : tie.Need-array-read-t13
+array-read-t13 c = search needs
+
+mul-t10-2 : tie.Need-mul-t10-2
+mul-t10-2 c = search needs
+
+array-read-t13-2 : tie.Need-array-read-t13-2
+array-read-t13-2 c = search needs
+
+link-at-requires : tie.Need-link-at-requires
+link-at-requires c κs =
+    let start : tie.Start = search in
+    link-before (start .pre .0) (start .pre .1) (start .pre .2) (start .pre .3)
+
+returns : tie.Need-returns
+returns c =
+    let start : tie.Start = search in
+    rank-before (start .pre .0) (start .pre .1) (start .pre .2) (start .pre .3)
+
+pub held-before-spec : {M : Type 1} → statement M
+held-before-spec =
+    tie.close (tie.spec mul-t10 array-read-t13 mul-t10-2 array-read-t13-2 link-at-requires returns)

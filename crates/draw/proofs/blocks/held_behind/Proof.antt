@@ -1,0 +1,29 @@
+-- `draw::blocks::held_behind` meets its contract: the link held behind a node leaves it, or an owner before it.
+use native.Mathlib.Omega.{arith}
+use Rattle.draw.proofs.Drawing.{few}
+use borrow.Author.Needs.{needs}
+use Rattle.draw.proofs.blocks.held_behind.Statement.{statement}
+use Rattle.draw.proofs.blocks.held_behind.Tie as tie
+
+arrives-requires : tie.Need-arrives-requires
+arrives-requires c κs =
+    let start : tie.Start = search in
+    (start .pre .2, omega (arith, few (start .pre .0)))
+
+add-t8 : tie.Need-add-t8
+add-t8 c =
+    let start : tie.Start = search in
+    omega (arith, few (start .pre .0))
+
+distance-at-requires : tie.Need-distance-at-requires
+distance-at-requires c κs = search needs
+
+returns : tie.Need-returns
+returns c = search needs
+
+returns-2 : tie.Need-returns-2
+returns-2 c = search needs
+
+pub held-behind-spec : {M : Type 1} → statement M
+held-behind-spec =
+    tie.close (tie.spec arrives-requires add-t8 distance-at-requires returns returns-2)
