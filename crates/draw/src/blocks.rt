@@ -3,7 +3,7 @@
 ghost use mathlib.Core.Path.{_≡_};
 ghost use Prim.Native.Nat.{_+_, _≤_, _<_};
 ghost use lib.ListN.{length};
-ghost use Rattle.model.specs.Nodes.{slotAt};
+ghost use Rattle.model.specs.Nodes.{slotAt, keyAt};
 ghost use Rattle.model.specs.Passes.{Passes, nodes};
 ghost use Rattle.arena.specs.Owners.{Listed, NodeThere, Leads};
 use arena::Index;
@@ -58,6 +58,7 @@ pub fn slot_at(w: &[u32], m: usize, list: Slot, i: u32) -> Slot
 
 pub fn key_at(w: &[u32], m: usize, list: Slot, i: u32) -> u32
     requires { ⌜ NodeThere (now w) m (list .0) i ⌝ }
+    ensures { λ r. ⌜ r ≡ keyAt (nodes (now (w .entry)) (list .0)) i ⌝ }
 {
     rank_walk::read(w, m, list, Index(i))
 }
