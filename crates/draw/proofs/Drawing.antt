@@ -2,11 +2,10 @@
 use Prim.Native.Nat.{ℕ, suc, _+_, _≤_, _<_}
 use mathlib.Core.Path.{_≡_, refl}
 use mathlib.Core.List.{List}
-use lib.ListN.{length, take, getD, length-take}
+use lib.ListN.{length, take, getD}
 use lib.Seq.{length-take-le}
 use native.Mathlib.Omega.{arith}
 use Rattle.model.specs.Nodes.{slotAt}
-use Rattle.model.specs.Closed.{last}
 use Rattle.model.specs.Arena.{width, farColumn}
 use Rattle.model.specs.Cells.{Cell}
 use Rattle.model.specs.Passes.{nodes}

@@ -1,6 +1,5 @@
 -- `draw::form_of` meets its contract: each test is a line of the table.
 use borrow.Author.Tests.{eq-eqb, ne-eqb}
-use borrow.Author.Needs.{needs}
 use Rattle.draw.proofs.form_of.Statement.{statement}
 use Rattle.draw.proofs.form_of.Tie as tie
 
