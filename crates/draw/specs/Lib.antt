@@ -1,3 +1,4 @@
 pub mod Blocks
 pub mod Forms
+pub mod Holds
 pub mod Places

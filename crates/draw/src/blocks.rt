@@ -1,11 +1,14 @@
 // What a picture shows of a list: a run of indexes, and level by level the link that is held. All of it is read off words that pass, by the
 // library's own walk.
 ghost use mathlib.Core.Path.{_≡_};
-ghost use Prim.Native.Nat.{_+_, _≤_, _<_};
-ghost use lib.ListN.{length};
-ghost use Rattle.model.specs.Nodes.{slotAt, keyAt};
-ghost use Rattle.model.specs.Passes.{Passes, nodes};
+ghost use Prim.Native.Nat.{suc, _+_, _≤_, _<_};
+ghost use lib.ListN.{length, drop};
+ghost use Rattle.model.specs.Nodes.{slotAt, keyAt, heightAt};
+ghost use Rattle.model.specs.Links.{distance};
+ghost use Rattle.model.specs.Passes.{Passes, decode, nodes};
+ghost use Rattle.arena.specs.Decides.{Decides};
 ghost use Rattle.arena.specs.Owners.{Listed, NodeThere, Leads};
+ghost use Rattle.draw.specs.Holds.{Holds};
 use arena::Index;
 use arena::Path;
 use arena::Rank;
@@ -79,6 +82,8 @@ pub fn height_at(w: &[u32], m: usize, list: Slot, i: u32) -> usize
 // How far the link of level l leads from the node at an index.
 fn distance_at(w: &[u32], m: usize, list: Slot, i: u32, l: usize) -> u32
     requires { ⌜ NodeThere (now w) m (list .0) i × (l < m) ⌝ }
+    ensures { λ r. ⌜ (suc l ≤ heightAt (decode (now (w .entry)) .levels) (nodes (now (w .entry)) (list .0)) (i + 1) →
+        r ≡ distance (suc l) (drop (i + 1) (nodes (now (w .entry)) (list .0)))) ⌝ }
 {
     let s = slot_at(w, m, list, i);
     arena::link_at(w, m, s, l).distance
@@ -87,7 +92,7 @@ fn distance_at(w: &[u32], m: usize, list: Slot, i: u32, l: usize) -> u32
 // The link of level l that is held before index i: that of the precursor which the walk to the index notes.
 pub fn held_before(w: &[u32], m: usize, list: Slot, i: u32, path: Path, l: usize) -> Held
     requires { ⌜ Listed (now w) m (list .0) × (i ≤ length (nodes (now w) (list .0))) × Leads (now w) m (list .0) i path × (l < m) ⌝ }
-    ensures { λ r. ⌜ r .from ≤ i ⌝ }
+    ensures { λ r. ⌜ Holds (now (w .entry)) (list .0) l i r ⌝ }
 {
     let slots = path.slots;
     let ranks = path.ranks;
@@ -101,14 +106,18 @@ pub fn held_before(w: &[u32], m: usize, list: Slot, i: u32, path: Path, l: usize
 // Whether the link that is held before an index leads to the node there.
 pub fn arrives(held: Held, i: u32) -> bool
     requires { ⌜ (held .from ≤ i) × (i < 4294967295) ⌝ }
+    ensures { λ r. ⌜ Decides r (held .from + held .far ≡ i + 1) ⌝ }
 {
-    held.far == i - held.from + 1
+    if held.far != i - held.from + 1 {
+        return false;
+    }
+    true
 }
 
 // The link that is held behind index i.
 pub fn held_behind(w: &[u32], m: usize, list: Slot, i: u32, l: usize, held: Held) -> Held
-    requires { ⌜ NodeThere (now w) m (list .0) i × (l < m) × (held .from ≤ i) ⌝ }
-    ensures { λ r. ⌜ r .from ≤ i + 1 ⌝ }
+    requires { ⌜ NodeThere (now w) m (list .0) i × (l < m) × Holds (now w) (list .0) l i held ⌝ }
+    ensures { λ r. ⌜ Holds (now (w .entry)) (list .0) l (i + 1) r ⌝ }
 {
     if arrives(held, i) {
         return Held {

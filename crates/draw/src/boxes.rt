@@ -2,6 +2,7 @@
 // with its distance. A link that leaves a block ends at its edge without a head, and comes from the edge of the next.
 ghost use Prim.Native.Nat.{_+_, _≤_, _<_};
 ghost use Rattle.arena.specs.Owners.{NodeThere, Leads};
+ghost use Rattle.draw.specs.Holds.{Holds};
 ghost use Rattle.draw.specs.Blocks.{Run};
 use super::blocks;
 use super::blocks::Block;
@@ -33,7 +34,7 @@ fn link(b: Block, held: Held, arrived: bool, i: u32, row: u32)
 
 // The arrows of a level.
 fn level(w: &[u32], m: usize, b: Block, l: usize, held: Held)
-    requires { ⌜ Run (now w) m b × (b .past ≤ b .first + 10) × (l < m) × (held .from ≤ b .first) ⌝ }
+    requires { ⌜ Run (now w) m b × (b .past ≤ b .first + 10) × (l < m) × Holds (now w) (b .list .0) l (b .first) held ⌝ }
 {
     let row = (m - 1 - l) as u32;
     svg::level_name(row, l as u32);

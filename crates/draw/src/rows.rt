@@ -1,10 +1,11 @@
 // An arena as text: each list in blocks of at most 80 columns, a row for each level with the distance of each link, the row of next, and below
 // them the indexes and the slots. A link that leaves a block ends in dots, and begins with dots where it comes into the next.
 ghost use mathlib.Core.Path.{_≡_};
-ghost use Prim.Native.Nat.{_≤_, _<_};
+ghost use Prim.Native.Nat.{_<_};
 ghost use lib.ListN.{length};
 ghost use Rattle.model.specs.Passes.{Passes, nodes};
 ghost use Rattle.arena.specs.Owners.{Listed, NodeThere, Leads};
+ghost use Rattle.draw.specs.Holds.{Holds};
 ghost use Rattle.draw.specs.Blocks.{Run, Narrow};
 use super::blocks;
 use super::blocks::BLOCKS;
@@ -41,7 +42,7 @@ fn level_cell(t: Text, d: Widths, arrived: bool, before: Held, behind: Held, key
 }
 
 fn level(w: &[u32], m: usize, b: Block, d: Widths, l: usize, held: Held)
-    requires { ⌜ Run (now w) m b × Narrow d × (l < m) × (held .from ≤ b .first) ⌝ }
+    requires { ⌜ Run (now w) m b × Narrow d × (l < m) × Holds (now w) (b .list .0) l (b .first) held ⌝ }
 {
     let mut t = cells::lead(cells::level_name(l), b.first == 0, held.far != 0);
     let mut before = held;

@@ -1,5 +1,6 @@
 -- `draw::blocks::held_before` meets its contract: the precursor is a node of the list, or its head.
-use Rattle.draw.proofs.Drawing.{rank-before, link-before}
+use Rattle.draw.proofs.Holding.{holds-before}
+use Rattle.draw.proofs.Drawing.{link-before}
 use borrow.Author.Needs.{needs}
 use Rattle.draw.proofs.blocks.held_before.Statement.{statement}
 use Rattle.draw.proofs.blocks.held_before.Tie as tie
@@ -23,8 +24,8 @@ link-at-requires c κs =
 
 returns : tie.Need-returns
 returns c =
-    let start : tie.Start = search in
-    rank-before (start .pre .0) (start .pre .1) (start .pre .2) (start .pre .3)
+    let (start, link) : tie.Start × tie.After-link-at = search in
+    holds-before (start .pre .0) (start .pre .1) (start .pre .2) (start .pre .3) (link .link-at .result) (link .link-at .ensures)
 
 pub held-before-spec : {M : Type 1} → statement M
 held-before-spec =

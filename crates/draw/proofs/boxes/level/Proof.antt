@@ -1,12 +1,13 @@
 -- `draw::boxes::level` is safe: a block has at most ten columns, and the held link leaves an owner before the index.
 use Rattle.draw.proofs.Drawing.{in-block}
 use Prim.Native.Nat.{_-_, _≤_}
+use Rattle.draw.specs.Holds.{Holds}
 use borrow.Author.Needs.{needs}
 use Rattle.draw.proofs.boxes.level.Statement.{statement}
 use Rattle.draw.proofs.boxes.level.Tie as tie
 
 abbrev Inv-loop : tie.InvT-loop
-Inv-loop w m b l row before₀ i₀ before i = (before .from ≤ i) × (b .first ≤ i) × (i ≤ b .past) × (row ≤ 15)
+Inv-loop w m b l row before₀ i₀ before i = Holds w (b .list .0) l i before × (b .first ≤ i) × (i ≤ b .past) × (row ≤ 15)
 
 abbrev μ-loop : tie.MeasureT-loop
 μ-loop w m b l row before₀ i₀ before i = b .past - i

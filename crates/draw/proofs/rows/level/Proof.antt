@@ -1,12 +1,13 @@
 -- `draw::rows::level` is safe: the indexes of a block are those of nodes, and the held link leaves an owner before the index.
 use Prim.Native.Nat.{_-_, _≤_}
 use Rattle.draw.proofs.Drawing.{in-block}
+use Rattle.draw.specs.Holds.{Holds}
 use borrow.Author.Needs.{needs}
 use Rattle.draw.proofs.rows.level.Statement.{statement}
 use Rattle.draw.proofs.rows.level.Tie as tie
 
 abbrev Inv-loop : tie.InvT-loop
-Inv-loop w m b d l t₀ before₀ i₀ t before i = (before .from ≤ i) × (b .first ≤ i) × (i ≤ b .past)
+Inv-loop w m b d l t₀ before₀ i₀ t before i = Holds w (b .list .0) l i before × (b .first ≤ i) × (i ≤ b .past)
 
 abbrev μ-loop : tie.MeasureT-loop
 μ-loop w m b d l t₀ before₀ i₀ t before i = b .past - i
