@@ -4,7 +4,7 @@ use Prim.Native.Nat.{ℕ, zero, suc, _+_, _-_, _≤_, _<_}
 use mathlib.Core.Path.{_≡_, refl, sym, ap, _∙_}
 use mathlib.Core.Bool.{cond}
 use mathlib.Core.List.{List, [], _∷_}
-use mathlib.Core.Option.{none, some}
+use mathlib.Core.Option.{Option, none, some}
 use lib.Dec.{leb, ltb, eqb, eqb·suc-zero}
 use lib.ListN.{length, take, drop, getD, length-take, length-drop}
 use lib.Seq.{drop-drop, take-nil}
@@ -148,13 +148,42 @@ rankPrecursor M t xs l = getD (rankPrecursors M t xs 0) (M - suc l) 0
 pub rank-precursor : (M t : ℕ) (xs : List Node) (l : ℕ) → l < M → rankPrecursor M t xs l ≡ last (suc l) (take (t - 1) xs)
 rank-precursor M t xs l k = precursor-from M l t xs 0 k ∙ zero-add (last (suc l) (take (t - 1 - 0) xs)) ∙ (let z : t - 1 - 0 ≡ t - 1 = omega arith in rw z refl)
 
+-- ---- the walk from any rank on, and the whole walk ----
+-- where the walk ends from rank r, with the levels below M to come
+abbrev end-from : ℕ → ℕ → List Node → ℕ → Option ℕ
+end-from M t xs r = let p = descendRanks M t xs r in nextRanks t p (drop p xs)
+
+from-is : (M t : ℕ) (xs : List Node) (r : ℕ) → r ≤ t → r ≤ length xs → end-from M t xs r ≡ cond (leb t (length xs)) (some t) none
+from-is M t xs r k l =
+    let p = descendRanks M t xs r in
+    let b = descend-le M t xs r k l in
+    let z : p + length (drop p xs) ≡ length xs = omega (arith, length-drop p xs) in
+    next-is t p (drop p xs) (b .0) ∙ (rw z refl)
+
+pub from-there : (M t : ℕ) (xs : List Node) (r : ℕ) → r ≤ t → t ≤ length xs → end-from M t xs r ≡ some t
+from-there M t xs r k l = from-is M t xs r k (omega arith) ∙ (rw (le-leb t (length xs) l) refl)
+
+pub from-past : (M t : ℕ) (xs : List Node) (r : ℕ) → r ≤ length xs → length xs < t → end-from M t xs r ≡ none
+from-past M t xs r k l = from-is M t xs r (omega arith) k ∙ (rw (lt-leb t (length xs) l) refl)
+
+-- past the target: no link and no next leads back
+descend-behind : (M t : ℕ) (xs : List Node) (r : ℕ) → t < r → descendRanks M t xs r ≡ r
+descend-behind zero t xs r k = refl
+descend-behind (suc M) t xs r k =
+    let z : t - 1 - r ≡ 0 = omega arith in
+    let a : alongRanks (length xs) M t xs r ≡ r = along-ranks-is (length xs) M t xs r (omega (arith, length-drop r xs)) ∙ (rw z (omega arith)) in
+    ap (descendRanks M t xs) a ∙ descend-behind M t xs r k
+
+next-behind : (t r : ℕ) (ys : List Node) → t < r → nextRanks t r ys ≡ none
+next-behind t r [] k = elim (same? r t) [ same e p ↦ absurd (omega arith) | other e p ↦ rw e refl ]
+next-behind t r (y ∷ ys) k = elim (same? r t) [ same e p ↦ absurd (omega arith) | other e p ↦ rw e (next-behind t (suc r) ys (omega arith)) ]
+
+pub from-behind : (M t : ℕ) (xs : List Node) (r : ℕ) → t < r → end-from M t xs r ≡ none
+from-behind M t xs r k = ap (λ (p : ℕ). nextRanks t p (drop p xs)) (descend-behind M t xs r k) ∙ next-behind t r (drop r xs) k
+
 -- "target 0 ends at the head at once, all precursors being the head at rank 0. Above the length it ends with none."
 pub rank-walk-is : (M t : ℕ) (xs : List Node) → rankWalk M t xs ≡ cond (leb t (length xs)) (some t) none
-rank-walk-is M t xs =
-    let r = descendRanks M t xs 0 in
-    let b = descend-le M t xs 0 (omega arith) (omega arith) in
-    let z : r + length (drop r xs) ≡ length xs = omega (arith, length-drop r xs) in
-    next-is t r (drop r xs) (b .0) ∙ (rw z refl)
+rank-walk-is M t xs = from-is M t xs 0 (omega arith) (omega arith)
 
 pub rank-head : (M : ℕ) (xs : List Node) → rankWalk M 0 xs ≡ some 0
 rank-head M xs = rank-walk-is M 0 xs ∙ (rw (le-leb 0 (length xs) (omega arith)) refl)

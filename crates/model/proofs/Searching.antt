@@ -78,8 +78,8 @@ by-next-is t r m (y ∷ ys) = elim (test (suc (y .key)) t) [
     stop true = ap found (same-stand (omega arith) refl)
     stop false = ap missing (same-stand (omega arith) refl)
 
--- ---- the whole walk ----
-walk-is : (h t : ℕ) (xs : List Node) (r m : ℕ) → byNext t (descend h t xs (stand r m)) (drop (descend h t xs (stand r m) .rank) xs)
+-- ---- the walk from any rank on, and the whole walk ----
+pub walk-is : (h t : ℕ) (xs : List Node) (r m : ℕ) → byNext t (descend h t xs (stand r m)) (drop (descend h t xs (stand r m) .rank) xs)
     ≡ endAt (keyIs t (drop (r + ends h t (drop r xs)) xs)) (r + ends h t (drop r xs)) (m + tally h t (drop r xs))
 walk-is zero t xs r m = by-next-is t r m (drop r xs) ∙ (rw (drop-drop (go 0 t (drop r xs)) r xs) refl)
 walk-is (suc h) t xs r m =

@@ -27,6 +27,10 @@ further-add d n = further-pos (suc d + n) (omega arith)
     further-pos zero l = absurd (omega arith)
     further-pos (suc k) l = refl
 
+pub further-le : (d : ℕ) {n : ℕ} → d ≤ n → further d ≤ suc n
+further-le zero l = omega arith
+further-le (suc d) l = omega arith
+
 -- an absent link: no comparison, nothing gone on
 pub absent-step : (h t : ℕ) (ys : List Node) → distance h ys ≡ 0 → (go h t ys ≡ 0) × (asks h t ys ≡ 0)
 absent-step h t [] e = (refl, refl)
@@ -96,11 +100,7 @@ distance-tall h (y ∷ ys) (suc d) e = elim (test h (y .height)) [
 -- ---- how far a link goes, and next as the link of stage 0 ----
 pub distance-le : (h : ℕ) (ys : List Node) → distance h ys ≤ length ys
 distance-le h [] = omega arith
-distance-le h (y ∷ ys) = elim (test h (y .height)) [ hit e p ↦ rw e (omega arith) | miss e p ↦ rw e (one-more (distance h ys) (distance-le h ys)) ]
-  where
-    one-more : (d : ℕ) {n : ℕ} → d ≤ n → further d ≤ suc n
-    one-more zero l = omega arith
-    one-more (suc d) l = omega arith
+distance-le h (y ∷ ys) = elim (test h (y .height)) [ hit e p ↦ rw e (omega arith) | miss e p ↦ rw e (further-le (distance h ys) (distance-le h ys)) ]
 
 pub first-target : (ys : List Node) → firstSlot ys ≡ target 0 ys
 first-target [] = refl

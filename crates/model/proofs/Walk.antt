@@ -13,6 +13,7 @@ use borrow.Author.Tests.{le-leb, lt-ltb, le-ltb}
 use Rattle.model.specs.Links.{further}
 use Rattle.model.specs.Nodes.{Node, smaller, Below, Above, Sorted}
 use Rattle.model.specs.Closed.{last, go, asks, ends, tally}
+use Rattle.model.proofs.Steps.{further-le}
 use Rattle.model.proofs.Tests.{hit, miss, test}
 
 -- how many are of height h or more; whether any
@@ -58,10 +59,18 @@ asks-split h t (y ∷ ys) bb p q =
 pub last-le : (h : ℕ) (aa : List Node) → last h aa ≤ length aa
 last-le h [] = omega arith
 last-le h (y ∷ ys) = elim (test h (y .height)) [ hit e p ↦ rw e (omega (arith, last-le h ys)) | miss e p ↦ rw e (further-le (last h ys) (last-le h ys)) ]
-  where
-    further-le : (d : ℕ) {n : ℕ} → d ≤ n → further d ≤ suc n
-    further-le zero l = omega arith
-    further-le (suc d) l = omega arith
+
+go-le : (h t : ℕ) (ys : List Node) → go h t ys ≤ length ys
+go-le h t [] = omega arith
+go-le h t (y ∷ ys) = elim (test h (y .height)) [
+  | hit e p ↦ rw e (elim (test (suc (y .key)) t) [ hit f q ↦ rw f (omega (arith, go-le h t ys)) | miss f q ↦ rw f (omega arith) ])
+  | miss e p ↦ rw e (further-le (go h t ys) (go-le h t ys))
+]
+
+-- on any list the walk ends within it
+pub ends-le : (h t : ℕ) (ys : List Node) → ends h t ys ≤ length ys
+ends-le zero t ys = go-le 0 t ys
+ends-le (suc h) t ys = let d = go (suc h) t ys in omega (arith, go-le (suc h) t ys, ends-le h t (drop d ys), length-drop d ys)
 
 pub last-zero : (aa : List Node) → last 0 aa ≡ length aa
 last-zero [] = refl

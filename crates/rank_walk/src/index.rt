@@ -1,11 +1,12 @@
 // Reading by rank: the walk without precursors.
 ghost use mathlib.Core.Path.{_≡_};
-ghost use Prim.Native.Nat.{_≤_, _<_};
+ghost use Prim.Native.Nat.{_<_};
 ghost use lib.ListN.{length};
 ghost use Rattle.model.specs.Nodes.{slotAt, keyAt};
 ghost use Rattle.model.specs.Lists.{middleOf};
 ghost use Rattle.model.specs.Passes.{nodes};
 ghost use Rattle.arena.specs.Owners.{Listed};
+ghost use Rattle.walk.specs.Standing.{Standing};
 use crate::Spot;
 use crate::index_mut::can_follow;
 use crate::index_mut::seek_next;
@@ -22,17 +23,14 @@ pub fn length(w: &[u32], m: usize, list: Slot) -> u32
     arena::cell(w, m, list, arena::COUNT)
 }
 
-// The slot at a rank.
-pub fn reach(w: &[u32], m: usize, list: Slot, target: Rank) -> Slot
-    requires { ⌜ Listed (now w) m (list .0) × (target .0 ≤ length (nodes (now w) (list .0))) ⌝ }
+// The slot at a rank, by a walk on from where one stands in the list, with the levels below `level` still to come.
+pub fn reach(w: &[u32], m: usize, list: Slot, from: Spot, level: usize, target: Rank) -> Slot
+    requires { ⌜ Standing (now w) m (list .0) (target .0) level (from .slot .0) (from .rank .0) ⌝ }
     ensures { λ r. ⌜ r .0 ≡ slotAt (list .0) (nodes (now (w .entry)) (list .0)) (target .0) ⌝ }
 {
-    let mut v = Spot {
-        slot: list,
-        rank: Rank::HEAD,
-    };
-    let mut base = arena::base_of(m, list);
-    let mut stage = m;
+    let mut v = from;
+    let mut base = arena::base_of(m, from.slot);
+    let mut stage = level;
     while 0 < stage {
         let far = arena::distance_in(w, base, stage);
         if !can_follow(far, target.0 - v.rank.0) {
@@ -54,7 +52,11 @@ pub fn read(w: &[u32], m: usize, list: Slot, i: Index) -> Key
     requires { ⌜ Listed (now w) m (list .0) × (i .0 < length (nodes (now w) (list .0))) ⌝ }
     ensures { λ r. ⌜ r ≡ keyAt (nodes (now (w .entry)) (list .0)) (i .0) ⌝ }
 {
-    let s = reach(w, m, list, Rank::from_index(i));
+    let head = Spot {
+        slot: list,
+        rank: Rank::HEAD,
+    };
+    let s = reach(w, m, list, head, m, Rank::from_index(i));
     arena::key_at(w, m, s)
 }
 

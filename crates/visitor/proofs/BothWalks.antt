@@ -1,7 +1,6 @@
 -- The visitors' walks as Shapes asks for them: the record, and what the walk requires and makes of it.
 use mathlib.Core.Path.{refl}
-use Rattle.arena.specs.Owners.{Listed}
-use Rattle.visitor.specs.Visited.{keyVisit, rankVisit}
+use Rattle.visitor.specs.Visited.{KeyStands, RankStands, keyVisit, rankVisit}
 use Rattle.visitor.proofs.Shapes.{PlainWalk}
 use Rattle.visitor.proofs.ord_index.OrdIndexVisitor as K
 use Rattle.visitor.proofs.ord_index.OrdIndexVisitor.Laws as K′
@@ -15,8 +14,8 @@ key-walk = record {
   plain-data = K′.the-plain;
   last = λ v. tt;
   silent = λ v l. refl;
-  Ready = λ w m v. Listed w m (v .current .0);
-  walked-to = λ w m v. keyVisit w m v;
+  Ready = λ w m v. KeyStands w m v;
+  walked-to = λ w m v. keyVisit w v;
 }
 
 abbrev pub rank-walk : PlainWalk
@@ -26,6 +25,6 @@ rank-walk = record {
   plain-data = R′.the-plain;
   last = λ v. tt;
   silent = λ v l. refl;
-  Ready = λ w m v. Listed w m (v .current .0);
-  walked-to = λ w m v. rankVisit w m v;
+  Ready = λ w m v. RankStands w m v;
+  walked-to = λ w m v. rankVisit w v;
 }

@@ -1,19 +1,18 @@
 // The walk by key.
 ghost use mathlib.Core.Path.{_≡_};
 ghost use mathlib.Core.Bool.{false};
-ghost use Prim.Native.Nat.{_≤_};
-ghost use lib.ListN.{length};
-ghost use Rattle.model.specs.Passes.{nodes};
-ghost use Rattle.model.specs.Walks.{stand};
-ghost use Rattle.arena.specs.Owners.{Listed};
-ghost use Rattle.visitor.specs.Visited.{keyEnd, keyVisit};
+ghost use Rattle.visitor.specs.Visited.{KeyStands, keyAt, keyOver, keyVisit};
 use arena::Key;
 use arena::Rank;
 use arena::Slot;
-use key_walk::Searched;
+use key_walk::Visitor;
+use key_walk::Walked;
 
-// Before the walk `current` is the head of the list. `left` is the number of comparisons left; `over` says that the walk asked for more.
+// `level` is the number of levels still to come: all of them at the head, none after a walk. `left` is the number of comparisons left; `over`
+// says that the last walk asked for more.
 pub struct OrdIndexVisitor {
+    pub list: Slot,
+    pub level: usize,
     pub current: Slot,
     pub rank: Rank,
     pub target: Key,
@@ -23,11 +22,14 @@ pub struct OrdIndexVisitor {
 }
 
 impl OrdIndexVisitor {
-    pub fn new(head: Slot, target: Key, allowance: u32) -> OrdIndexVisitor
-        ensures { λ r. ⌜ (r .current ≡ head) × (r .rank .0 ≡ 0) × (r .target ≡ target) × (r .left ≡ allowance) × (r .found ≡ false) × (r .over ≡ false) ⌝ }
+    // At the head of a list, in an arena of m levels.
+    pub fn new(list: Slot, m: usize, target: Key, allowance: u32) -> OrdIndexVisitor
+        ensures { λ r. ⌜ (r .list ≡ list) × (r .level ≡ m) × (r .current ≡ list) × (r .rank .0 ≡ 0) × (r .target ≡ target) × (r .left ≡ allowance) × (r .found ≡ false) × (r .over ≡ false) ⌝ }
     {
         OrdIndexVisitor {
-            current: head,
+            list,
+            level: m,
+            current: list,
             rank: Rank::HEAD,
             target,
             left: allowance,
@@ -36,44 +38,51 @@ impl OrdIndexVisitor {
         }
     }
 
-    // Where the walk ends: at a rank, after n comparisons.
-    fn ended(self, w: &[u32], m: usize, rank: Rank, n: u32, found: bool) -> OrdIndexVisitor
-        requires { ⌜ Listed (now w) m (self .current .0) × (rank .0 ≤ length (nodes (now w) (self .current .0))) × (n ≤ self .left) ⌝ }
-        ensures { λ r. ⌜ r ≡ keyEnd (now (w .entry)) self (stand (rank .0) n) found ⌝ }
+    // Where a walk has ended.
+    fn ended(self, at: Visitor, found: bool) -> OrdIndexVisitor
+        ensures { λ r. ⌜ r ≡ keyAt self (at .slot) (at .rank) (at .left) found ⌝ }
     {
-        let current = rank_walk::reach(w, m, self.current, rank);
-        OrdIndexVisitor {
-            current,
-            rank,
-            target: self.target,
-            left: self.left - n,
-            found,
-            over: false,
-        }
+        let slot = at.slot;
+        let rank = at.rank;
+        let mut v = self;
+        v.level = 0;
+        v.current = slot;
+        v.rank = rank;
+        v.left = at.left;
+        v.found = found;
+        v.over = false;
+        v
+    }
+
+    // Out of comparisons.
+    fn out(self) -> OrdIndexVisitor
+        ensures { λ r. ⌜ r ≡ keyOver self ⌝ }
+    {
+        let mut v = self;
+        v.left = 0;
+        v.found = false;
+        v.over = true;
+        v
     }
 
     pub fn traversed(self, w: &[u32], m: usize) -> OrdIndexVisitor
-        requires { ⌜ Listed (now w) m (self .current .0) ⌝ }
-        ensures { λ r. ⌜ r ≡ keyVisit (now (w .entry)) m self ⌝ }
+        requires { ⌜ KeyStands (now w) m self ⌝ }
+        ensures { λ r. ⌜ r ≡ keyVisit (now (w .entry)) self ⌝ }
     {
-        let head = self.current;
-        match key_walk::search(w, m, head, self.target, self.left) {
-            Searched::Found(i, n) => self.ended(w, m, Rank::from_index(i), n, true),
-            Searched::Missing(i, n) => self.ended(w, m, Rank::before(i), n, false),
-            Searched::Beyond(_) => OrdIndexVisitor {
-                current: head,
-                rank: Rank::HEAD,
-                target: self.target,
-                left: 0,
-                found: false,
-                over: true,
-            },
+        if self.found {
+            return self;
+        }
+        let from = Visitor::at(m, self.current, self.rank, self.left);
+        match key_walk::walk(w, m, self.list, self.target, from, self.level) {
+            Walked::Found(v) => self.ended(v, true),
+            Walked::Missing(v) => self.ended(v, false),
+            Walked::Over => self.out(),
         }
     }
 
     pub fn traverse(&mut self, w: &[u32], m: usize)
-        requires { ⌜ Listed (now w) m (now self .current .0) ⌝ }
-        ensures { λ _. ⌜ now (self .exit) ≡ keyVisit (now (w .entry)) m (now (self .entry)) ⌝ }
+        requires { ⌜ KeyStands (now w) m (now self) ⌝ }
+        ensures { λ _. ⌜ now (self .exit) ≡ keyVisit (now (w .entry)) (now (self .entry)) ⌝ }
     {
         let before = *self;
         let after = before.traversed(w, m);
@@ -82,8 +91,8 @@ impl OrdIndexVisitor {
 
     // A caller of `traverse`, for callers that keep the visitor by value: it lends its own.
     pub fn lent(self, w: &[u32], m: usize) -> OrdIndexVisitor
-        requires { ⌜ Listed (now w) m (self .current .0) ⌝ }
-        ensures { λ r. ⌜ r ≡ keyVisit (now (w .entry)) m self ⌝ }
+        requires { ⌜ KeyStands (now w) m self ⌝ }
+        ensures { λ r. ⌜ r ≡ keyVisit (now (w .entry)) self ⌝ }
     {
         let mut v = self;
         v.traverse(w, m);

@@ -1,6 +1,5 @@
 -- `key_walk::ord_index::follow` meets its contract.
--- The invariant: in whichever list the walk began, the last stage leads where the whole walk leads, with the whole walk's tally. The measure:
--- comparisons left.
+-- The invariant: in whichever list the walk began, the last stage leads where it leads from there, with its tally. The measure: comparisons left.
 use Prim.Native.Nat.{ℕ}
 use mathlib.Core.Path.{_∙_}
 use native.Mathlib.Omega.{arith}
@@ -8,16 +7,16 @@ use borrow.Author.Needs.{needs}
 use Rattle.arena.proofs.Deciding.{yes, no}
 use Rattle.walk.proofs.Standing.{levels-most, length-most, next-here, key-inside, key-read}
 use Rattle.walk.proofs.Ahead.{key-cell, next-one, else-below}
-use Rattle.key_walk.specs.Midway.{Carries}
-use Rattle.key_walk.proofs.Answering.{go-there, answers-absent, answers-over, answers-greater, answers-equal}
+use Rattle.key_walk.specs.Midway.{Stands, Carries}
+use Rattle.key_walk.proofs.Answering.{midway-start, over, go-there, ends-absent, ends-greater, ends-equal}
 use Rattle.key_walk.proofs.ord_index.follow.Statement.{statement}
 use Rattle.key_walk.proofs.ord_index.follow.Tie as tie
 
 abbrev Inv-loop : tie.InvT-loop
-Inv-loop w m key allowance u₀ u = (a : ℕ) → Carries w m a key allowance 0 u₀ → Carries w m a key allowance 0 u
+Inv-loop w m key u₀ u = (a : ℕ) → Stands w m a 0 u₀ → Carries w m a key 0 u₀ 0 u
 
 abbrev μ-loop : tie.MeasureT-loop
-μ-loop w m key allowance u₀ u = u .left
+μ-loop w m key u₀ u = u .left
 
 abbrev Start : Type 0
 Start = tie.Start Inv-loop μ-loop
@@ -41,7 +40,7 @@ record Compared : Type 0 where
   below : tie.After-below Inv-loop μ-loop
 
 loop-holds : tie.Need-loop-holds Inv-loop μ-loop
-loop-holds c = λ a g. g
+loop-holds c = λ a g. record { midway = midway-start _ _ (g .stands); base = g .base }
 
 add-word : tie.Need-add-word Inv-loop μ-loop
 add-word c =
@@ -55,27 +54,19 @@ word-requires c κs =
     let v = head .loop .inv _ (start .pre) in
     next-here (v .midway .stands) (v .base) .inside
 
-after-requires : tie.Need-after-requires Inv-loop μ-loop
-after-requires c κs = search needs
-
-sub-t17 : tie.Need-sub-t17 Inv-loop μ-loop
-sub-t17 c =
-    let (start, head) : Start × Head = search in
-    head .loop .inv _ (start .pre) .midway .fall
-
 returns : tie.Need-returns Inv-loop μ-loop
 returns c =
-    let (r, absent, place) : Looked × tie.Then1 Inv-loop μ-loop × tie.After-after Inv-loop μ-loop = search in
+    let (r, absent) : Looked × tie.Then1 Inv-loop μ-loop = search in
     let v = r .head .loop .inv _ (r .start .pre) in
     let to = r .to .word .ensures ∙ next-here (v .midway .stands) (v .base) .target in
-    answers-absent (v .midway) _ to (absent .if1 .taken) _ (place .after .ensures)
+    ends-absent (v .midway) _ to (absent .if1 .taken)
 
 returns-2 : tie.Need-returns-2 Inv-loop μ-loop
 returns-2 c =
     let (r, present) : Looked × tie.Else1 Inv-loop μ-loop = search in
     let v = r .head .loop .inv _ (r .start .pre) in
     let to = r .to .word .ensures ∙ next-here (v .midway .stands) (v .base) .target in
-    answers-over (v .midway) _ to (present .if1 .left) (c .if2 .taken)
+    over (v .midway) _ to (present .if1 .left) (c .if2 .taken)
 
 sub-u : tie.Need-sub-u Inv-loop μ-loop
 sub-u c = search needs
@@ -95,21 +86,13 @@ key-in-requires c κs =
 below-requires : tie.Need-below-requires Inv-loop μ-loop
 below-requires c κs = search needs
 
-after-requires-2 : tie.Need-after-requires-2 Inv-loop μ-loop
-after-requires-2 c κs = search needs
-
-sub-t20 : tie.Need-sub-t20 Inv-loop μ-loop
-sub-t20 c =
-    let (start, head) : Start × Head = search in
-    omega (arith, head .loop .inv _ (start .pre) .midway .fall)
-
 returns-3 : tie.Need-returns-3 Inv-loop μ-loop
 returns-3 c =
-    let (r, greater, place) : Compared × tie.Then3 Inv-loop μ-loop × tie.After-after2 Inv-loop μ-loop = search in
+    let (r, greater) : Compared × tie.Then3 Inv-loop μ-loop = search in
     let v = r .looked .head .loop .inv _ (r .looked .start .pre) in
     let to = r .looked .to .word .ensures ∙ next-here (v .midway .stands) (v .base) .target in
-    answers-greater (v .midway) _ to (r .present .if1 .left) (r .some-left .if2 .left) _ (key-read _ _ _ (r .there .base-of .ensures) (r .met .key-in .ensures))
-    (yes (r .below .below .ensures) (greater .if3 .taken)) _ (place .after2 .ensures)
+    ends-greater (v .midway) _ to (r .present .if1 .left) (r .some-left .if2 .left) _ (key-read _ _ _ (r .there .base-of .ensures) (r .met .key-in .ensures))
+    (yes (r .below .below .ensures) (greater .if3 .taken))
 
 plus-requires : tie.Need-plus-requires Inv-loop μ-loop
 plus-requires c κs =
@@ -120,22 +103,14 @@ plus-requires c κs =
 same-requires : tie.Need-same-requires Inv-loop μ-loop
 same-requires c κs = search needs
 
-to-index-requires : tie.Need-to-index-requires Inv-loop μ-loop
-to-index-requires c κs = search needs
-
-sub-t23 : tie.Need-sub-t23 Inv-loop μ-loop
-sub-t23 c =
-    let (start, head) : Start × Head = search in
-    omega (arith, head .loop .inv _ (start .pre) .midway .fall)
-
 returns-4 : tie.Need-returns-4 Inv-loop μ-loop
 returns-4 c =
     let (r, rank, same) : Compared × tie.After-plus Inv-loop μ-loop × tie.After-same Inv-loop μ-loop = search in
-    let (equal, place) : tie.Then4 Inv-loop μ-loop × tie.After-to-index Inv-loop μ-loop = search in
+    let equal : tie.Then4 Inv-loop μ-loop = search in
     let v = r .looked .head .loop .inv _ (r .looked .start .pre) in
     let to = r .looked .to .word .ensures ∙ next-here (v .midway .stands) (v .base) .target in
-    answers-equal (v .midway) _ to (r .present .if1 .left) (r .some-left .if2 .left) _ (key-read _ _ _ (r .there .base-of .ensures) (r .met .key-in .ensures))
-    (yes (same .same .ensures) (equal .if4 .taken)) _ (omega (arith, place .to-index .ensures, rank .plus .ensures))
+    ends-equal (v .midway) _ to (r .present .if1 .left) (r .some-left .if2 .left) _ (key-read _ _ _ (r .there .base-of .ensures) (r .met .key-in .ensures))
+    (yes (same .same .ensures) (equal .if4 .taken)) _ (rank .plus .ensures)
 
 loop-less : tie.Need-loop-less Inv-loop μ-loop
 loop-less c = search needs
@@ -160,21 +135,15 @@ follow-spec =
     loop-holds
     add-word
     word-requires
-    after-requires
-    sub-t17
     returns
     returns-2
     sub-u
     base-of-requires
     key-in-requires
     below-requires
-    after-requires-2
-    sub-t20
     returns-3
     plus-requires
     same-requires
-    to-index-requires
-    sub-t23
     returns-4
     loop-less
     loop-again)

@@ -8,17 +8,17 @@ use borrow.Author.Tests.{not-false}
 use Rattle.model.specs.Cells.{baseOf}
 use Rattle.arena.proofs.Deciding.{yes}
 use Rattle.walk.specs.Standing.{Standing}
-use Rattle.walk.proofs.Standing.{at-head, length-most, lowered, link-here}
+use Rattle.walk.proofs.Standing.{levels-most, length-most, lowered, link-here}
 use Rattle.rank_walk.proofs.Seeking.{follows}
 use Rattle.rank_walk.proofs.index.reach.Statement.{statement}
 use Rattle.rank_walk.proofs.index.reach.Tie as tie
 
 abbrev Inv-loop : tie.InvT-loop
-Inv-loop w m list target v₀ base₀ stage₀ v base stage =
+Inv-loop w m list level target v₀ base₀ stage₀ v base stage =
     Standing w m (list .0) (target .0) stage (v .slot .0) (v .rank .0) × (base ≡ baseOf m (v .slot .0))
 
 abbrev μ-loop : tie.MeasureT-loop
-μ-loop w m list target v₀ base₀ stage₀ v base stage = stage + (target .0 - v .rank .0)
+μ-loop w m list level target v₀ base₀ stage₀ v base stage = stage + (target .0 - v .rank .0)
 
 abbrev Head : Type 0
 Head = tie.At-loop Inv-loop μ-loop
@@ -35,12 +35,14 @@ record Followed : Type 0 where
   on : tie.Else1 Inv-loop μ-loop
 
 base-of-requires : tie.Need-base-of-requires Inv-loop μ-loop
-base-of-requires c κs = search needs
+base-of-requires c κs =
+    let start : tie.Start Inv-loop μ-loop = search in
+    levels-most (start .pre)
 
 loop-holds : tie.Need-loop-holds Inv-loop μ-loop
 loop-holds c =
     let start : tie.Start Inv-loop μ-loop = search in
-    (at-head (start .pre .0) (start .pre .1), c .base-of .ensures)
+    (start .pre, c .base-of .ensures)
 
 distance-in-requires : tie.Need-distance-in-requires Inv-loop μ-loop
 distance-in-requires c κs =
@@ -77,7 +79,9 @@ plus-requires c κs =
     omega (arith, yes (f .asked .can-follow .ensures) (not-false _ (f .on .if1 .left)), length-most (f .head .loop .inv .0))
 
 base-of-requires-2 : tie.Need-base-of-requires-2 Inv-loop μ-loop
-base-of-requires-2 c κs = search needs
+base-of-requires-2 c κs =
+    let head : Head = search in
+    levels-most (head .loop .inv .0)
 
 loop-less-2 : tie.Need-loop-less-2 Inv-loop μ-loop
 loop-less-2 c =

@@ -3,7 +3,7 @@ use mathlib.Core.Path.{refl, _∙_}
 use native.Mathlib.Omega.{arith}
 use borrow.Author.Needs.{needs}
 use Rattle.model.specs.Arena.{keyColumn}
-use Rattle.walk.proofs.Standing.{at-rank, length-most, cell-here, key-here}
+use Rattle.walk.proofs.Standing.{at-head, at-rank, length-most, cell-here, key-here}
 use Rattle.rank_walk.proofs.index.read.Statement.{statement}
 use Rattle.rank_walk.proofs.index.read.Tie as tie
 
@@ -13,7 +13,9 @@ from-index-requires c κs =
     omega (arith, length-most (at-rank 0 (start .pre .0) (omega arith) refl), start .pre .1)
 
 reach-requires : tie.Need-reach-requires
-reach-requires c κs = search needs
+reach-requires c κs =
+    let (start, rank) : tie.Start × tie.After-from-index = search in
+    at-head (start .pre .0) (omega (arith, rank .from-index .ensures, start .pre .1))
 
 key-at-requires : tie.Need-key-at-requires
 key-at-requires c κs =

@@ -1,90 +1,80 @@
 -- `visitor::ord_index::OrdIndexVisitor::traversed` meets its contract.
--- The search tells where the walk ends, with its tally; `ended` is what the visitor then holds.
-use mathlib.Core.Path.{refl}
-use mathlib.Core.Bool.{true, false}
-use native.Mathlib.Omega.{arith}
+-- A visitor that has found its key is given back; otherwise it is where the walk on from its slot ends.
+use mathlib.Core.Path.{refl, sym, _∙_}
 use borrow.Author.Needs.{needs}
-use Rattle.walk.proofs.Standing.{at-rank, length-most}
-use Rattle.visitor.proofs.Ends.{found-ends, missing-ends, beyond-ends, visit-ends, visit-over}
+use Rattle.visitor.proofs.Ends.{found-stays, visit-ends, visit-over}
 use Rattle.visitor.proofs.ord_index.OrdIndexVisitor.traversed.Statement.{statement}
 use Rattle.visitor.proofs.ord_index.OrdIndexVisitor.traversed.Tie as tie
 
--- the search has answered: found at an index, missing at a place
-record Found : Type 0 where
+-- the key is not found yet, and the walk has ended
+record Walked : Type 0 where
   start : tie.Start
-  searched : tie.After-search
-  arm : tie.After-i
+  fresh : tie.Else1
+  from : tie.After-at
+  walked : tie.After-walk
 
-record Missing : Type 0 where
-  start : tie.Start
-  searched : tie.After-search
-  arm : tie.After-i2
+returns : tie.Need-returns
+returns c =
+    let start : tie.Start = search in
+    sym (found-stays (start .args .w .now) (start .args .self) (c .if1 .taken))
 
-search-requires : tie.Need-search-requires
-search-requires c κs = search needs
+at-requires : tie.Need-at-requires
+at-requires c κs = search needs
 
-enum-known-i : tie.Need-enum-known-i
-enum-known-i c = search needs
+walk-requires : tie.Need-walk-requires
+walk-requires c κs =
+    let start : tie.Start = search in
+    rw (c .at .ensures) (record { stands = start .pre; base = refl })
 
-from-index-requires : tie.Need-from-index-requires
-from-index-requires c κs =
-    let r : Found = search in
-    let p = r .start .pre in
-    omega (arith, length-most (at-rank 0 p (omega arith) refl), found-ends p _ _ (r .searched .search .ensures) (r .arm .i .given .1) .rank)
+enum-known-v : tie.Need-enum-known-v
+enum-known-v c = search needs
 
 ended-requires : tie.Need-ended-requires
-ended-requires c κs =
-    let r : Found = search in
-    let e = found-ends (r .start .pre) _ _ (r .searched .search .ensures) (r .arm .i .given .1) in
-    (r .start .pre, omega (arith, c .from-index .ensures, e .rank), e .within)
+ended-requires c κs = search needs
 
-enum-known-i-2 : tie.Need-enum-known-i-2
-enum-known-i-2 c = search needs
-
-before-requires : tie.Need-before-requires
-before-requires c κs = search needs
+enum-known-v-2 : tie.Need-enum-known-v-2
+enum-known-v-2 c = search needs
 
 ended-requires-2 : tie.Need-ended-requires-2
-ended-requires-2 c κs =
-    let r : Missing = search in
-    let e = missing-ends (r .start .pre) _ _ (r .searched .search .ensures) (r .arm .i2 .given .1) in
-    (r .start .pre, omega (arith, c .before2 .ensures, e .rank), e .within)
+ended-requires-2 c κs = search needs
 
 enum-told : tie.Need-enum-told
 enum-told c = search needs
 
-returns : tie.Need-returns
-returns c =
-    let (r, rank) : Found × tie.After-from-index = search in
-    let a = r .start .args in
-    let e = found-ends (r .start .pre) _ _ (r .searched .search .ensures) (r .arm .i .given .1) in
-    visit-ends (a .w .now) (a .m) (a .self) true e (omega (arith, rank .from-index .ensures)) (c .ended .ensures)
+out-requires : tie.Need-out-requires
+out-requires c κs = search needs
 
 returns-2 : tie.Need-returns-2
 returns-2 c =
-    let (r, rank) : Missing × tie.After-before2 = search in
-    let a = r .start .args in
-    let e = missing-ends (r .start .pre) _ _ (r .searched .search .ensures) (r .arm .i2 .given .1) in
-    visit-ends (a .w .now) (a .m) (a .self) false e (rank .before2 .ensures) (c .ended2 .ensures)
+    let (r, on) : Walked × tie.After-v = search in
+    let z = rw (on .v .given .1, r .from .at .ensures) at (r .walked .walk .ensures) in
+    visit-ends (r .start .args .w .now) (r .start .args .self) (r .fresh .if1 .left) z (c .ended .ensures)
 
 returns-3 : tie.Need-returns-3
 returns-3 c =
-    let (start, searched) : tie.Start × tie.After-search = search in
-    let a = start .args in
-    visit-over (a .w .now) (a .m) (a .self) (beyond-ends (start .pre) _ _ (searched .search .ensures) (c .enum-told .given .1))
+    let (r, on) : Walked × tie.After-v2 = search in
+    let z = rw (on .v2 .given .1, r .from .at .ensures) at (r .walked .walk .ensures) in
+    visit-ends (r .start .args .w .now) (r .start .args .self) (r .fresh .if1 .left) z (c .ended2 .ensures)
+
+returns-4 : tie.Need-returns-4
+returns-4 c =
+    let (r, over) : Walked × tie.After-enum-told = search in
+    let z = rw (over .enum-told .given .1, r .from .at .ensures) at (r .walked .walk .ensures) in
+    c .out .ensures ∙ visit-over (r .start .args .w .now) (r .start .args .self) (r .fresh .if1 .left) z
 
 pub traversed-spec : {M : Type 1} → statement M
 traversed-spec =
     tie.close
     (tie.spec
-    search-requires
-    enum-known-i
-    from-index-requires
+    returns
+    at-requires
+    walk-requires
+    enum-known-v
     ended-requires
-    enum-known-i-2
-    before-requires
+    enum-known-v-2
     ended-requires-2
     enum-told
-    returns
+    out-requires
     returns-2
-    returns-3)
+    returns-3
+    returns-4)
