@@ -1,6 +1,7 @@
 -- The visitors' walks as Shapes asks for them: the record, and what the walk requires and makes of it.
 use mathlib.Core.Path.{refl}
 use Rattle.visitor.specs.Visited.{KeyStands, RankStands, keyVisit, rankVisit}
+use Rattle.visitor.proofs.Again.{key-stands-again, rank-stands-again}
 use Rattle.visitor.proofs.Shapes.{PlainWalk}
 use Rattle.visitor.proofs.ord_index.OrdIndexVisitor as K
 use Rattle.visitor.proofs.ord_index.OrdIndexVisitor.Laws as K′
@@ -16,6 +17,7 @@ key-walk = record {
   silent = λ v l. refl;
   Ready = λ w m v. KeyStands w m v;
   walked-to = λ w m v. keyVisit w v;
+  ready-again = λ w m v g. key-stands-again v g;
 }
 
 abbrev pub rank-walk : PlainWalk
@@ -27,4 +29,5 @@ rank-walk = record {
   silent = λ v l. refl;
   Ready = λ w m v. RankStands w m v;
   walked-to = λ w m v. rankVisit w v;
+  ready-again = λ w m v g. rank-stands-again v g;
 }

@@ -37,14 +37,14 @@ module _ (w : List ℕ) (v : OrdIndexVisitor) where
   found-stays f = rw f refl
 
   -- the rank after which the walk ends, and its comparisons
-  abbrev E : ℕ
+  abbrev pub E : ℕ
   E = v .rank .0 + ends (v .level) (v .target) (drop (v .rank .0) ys)
 
-  abbrev T : ℕ
+  abbrev pub T : ℕ
   T = tally (v .level) (v .target) (drop (v .rank .0) ys)
 
   -- whether the key is there
-  abbrev met : Bool
+  abbrev pub met : Bool
   met = keyIs (v .target) (drop E ys)
 
   -- what a visitor that has not found its key holds after a walk of n comparisons

@@ -21,7 +21,7 @@ use denote.Struct.Laws as LL
 use denote.Triple.Clauses.{Clauses, Ended}
 use denote.Exit.{yes, Last, left}
 
--- A record of plain data, what the walk requires of the words and the levels, and what it makes of the record.
+-- A record of plain data, what the walk requires of the words and the levels, and what it makes of the record, which it can walk again.
 pub record PlainWalk : Type 2 where
   pub type : Declared
   pub laws : LL.Laws type
@@ -31,6 +31,20 @@ pub record PlainWalk : Type 2 where
   pub silent : (v : type .D) (l : Last (row type .exit yes) v) → left (row type .exit yes) v l ≡ ftrue
   pub Ready : List ℕ → ℕ → type .D → Type 0
   pub walked-to : List ℕ → ℕ → type .D → type .D
+  pub ready-again : (w : List ℕ) (m : ℕ) (v : type .D) → Ready w m v → Ready w m (walked-to w m v)
+
+-- The walk and the walk on from where it ends.
+abbrev pub twice : PlainWalk → PlainWalk
+twice X = record {
+  type = X .type;
+  laws = X .laws;
+  plain-data = X .plain-data;
+  last = X .last;
+  silent = X .silent;
+  Ready = X .Ready;
+  walked-to = λ w m v. X .walked-to w m (X .walked-to w m v);
+  ready-again = λ w m v g. X .ready-again w m _ (X .ready-again w m v g);
+}
 
 -- Where a record is stored back two are at hand: the one that was copied out, in local 4, and the one that the walk gave, in local 5.
 abbrev pub held : {B : Type 0} → ℕ → B → B → B
@@ -135,4 +149,21 @@ module _ (X : PlainWalk) where
         (seq (assign (place 6 []) (addrOf (place 4 [])))
         (seq (call callee (copy (place 6 []) ∷ copy (place 2 []) ∷ copy (place 3 []) ∷ []) (place 5 []))
         (seq (assign (place 0 []) (rvOpd (copy (place 4 [])))) return)));
+  }
+
+  -- `let mut v = self; v.traverse(w, m); v.traverse(w, m); v`
+  abbrev pub lent-twice : Name → Fn
+  lent-twice callee = record {
+    lifetimes = 1;
+    outlives = [];
+    params = 3;
+    locals =
+        local τ valueLocal ∷ local τ valueLocal ∷ local (slice 0) valueLocal ∷ local (tyInt w64) valueLocal ∷ local τ memorySlot ∷ local tyUnit valueLocal
+        ∷ local (tyRef erased mut pointee) valueLocal ∷ local (tyRef erased mut pointee) valueLocal ∷ [];
+    body = seq (assign (place 4 []) (rvOpd (copy (place 1 []))))
+        (seq (assign (place 6 []) (addrOf (place 4 [])))
+        (seq (call callee (copy (place 6 []) ∷ copy (place 2 []) ∷ copy (place 3 []) ∷ []) (place 5 []))
+        (seq (assign (place 7 []) (addrOf (place 4 [])))
+        (seq (call callee (copy (place 7 []) ∷ copy (place 2 []) ∷ copy (place 3 []) ∷ []) (place 5 []))
+        (seq (assign (place 0 []) (rvOpd (copy (place 4 [])))) return)))));
   }

@@ -84,4 +84,15 @@ impl IndexVisitor {
         v.traverse(w, m);
         v
     }
+
+    // A caller that lends its visitor twice: the second walk goes on from where the first ended.
+    pub fn again(self, w: &[u32], m: usize) -> IndexVisitor
+        requires { ⌜ RankStands (now w) m self ⌝ }
+        ensures { λ r. ⌜ r ≡ rankVisit (now (w .entry)) (rankVisit (now (w .entry)) self) ⌝ }
+    {
+        let mut v = self;
+        v.traverse(w, m);
+        v.traverse(w, m);
+        v
+    }
 }

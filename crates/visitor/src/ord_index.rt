@@ -98,4 +98,15 @@ impl OrdIndexVisitor {
         v.traverse(w, m);
         v
     }
+
+    // A caller that lends its visitor twice: the second walk goes on from where the first ended.
+    pub fn again(self, w: &[u32], m: usize) -> OrdIndexVisitor
+        requires { ⌜ KeyStands (now w) m self ⌝ }
+        ensures { λ r. ⌜ r ≡ keyVisit (now (w .entry)) (keyVisit (now (w .entry)) self) ⌝ }
+    {
+        let mut v = self;
+        v.traverse(w, m);
+        v.traverse(w, m);
+        v
+    }
 }

@@ -1,8 +1,8 @@
--- `visitor::index::IndexVisitor::lent` meets its contract: proofs/Lending, at this record and this walk.
+-- `visitor::index::IndexVisitor::lent` meets its contract: proofs/Lenders, at this record and this walk.
 use contract.Running.{givenOf, tables, tablesOf}
 use denote.Triple.Spec.{tripleOf}
 use denote.Triple.Table.{entered, cited}
-use Rattle.visitor.proofs.Lending.{lend-meets}
+use Rattle.visitor.proofs.Lenders.{lend-meets}
 use Rattle.visitor.proofs.BothWalks.{rank-walk}
 use Rattle.visitor.proofs.index.IndexVisitor.traverse as thin
 use Rattle.visitor.proofs.index.IndexVisitor.traverse.Symbol as thin-def
