@@ -19,6 +19,19 @@ abbrev StandsIn : List ℕ → ℕ → Slot → ℕ → Slot → Rank → Type 0
 StandsIn w m list level current rank = Standing w m (list .0) (length (nodes w (list .0))) level (current .0) (rank .0)
 
 -- ---- by key ----
+-- At the head of a list, in an arena of m levels.
+abbrev pub keyHead : Slot → ℕ → ℕ → ℕ → OrdIndexVisitor
+keyHead list m target allowance = record {
+  list = list;
+  level = m;
+  current = list;
+  rank = record { 0 = 0 };
+  target = target;
+  left = allowance;
+  found = false;
+  over = false;
+}
+
 abbrev pub KeyStands : List ℕ → ℕ → OrdIndexVisitor → Type 0
 KeyStands w m v = StandsIn w m (v .list) (v .level) (v .current) (v .rank)
 
@@ -54,6 +67,9 @@ keyVisit w v =
     cond (v .found) v (cond (leb (ended e .tally) (v .left)) (keyEnd w v (ended e) (isFound e)) (keyOver v))
 
 -- ---- by rank ----
+abbrev pub rankHead : Slot → ℕ → Rank → IndexVisitor
+rankHead list m target = record { list = list; level = m; current = list; rank = record { 0 = 0 }; target = target; found = false }
+
 abbrev pub RankStands : List ℕ → ℕ → IndexVisitor → Type 0
 RankStands w m v = StandsIn w m (v .list) (v .level) (v .current) (v .rank)
 

@@ -1,8 +1,7 @@
 // The walk by rank.
 ghost use mathlib.Core.Path.{_≡_};
-ghost use mathlib.Core.Bool.{false};
 ghost use Rattle.walk.specs.Standing.{Standing};
-ghost use Rattle.visitor.specs.Visited.{RankStands, rankAt, rankVisit};
+ghost use Rattle.visitor.specs.Visited.{rankHead, RankStands, rankAt, rankVisit};
 use arena::Index;
 use arena::Rank;
 use arena::Slot;
@@ -21,7 +20,7 @@ pub struct IndexVisitor {
 impl IndexVisitor {
     // At the head of a list, in an arena of m levels.
     pub fn new(list: Slot, m: usize, target: Rank) -> IndexVisitor
-        ensures { λ r. ⌜ (r .list ≡ list) × (r .level ≡ m) × (r .current ≡ list) × (r .rank .0 ≡ 0) × (r .target ≡ target) × (r .found ≡ false) ⌝ }
+        ensures { λ r. ⌜ r ≡ rankHead list m target ⌝ }
     {
         IndexVisitor {
             list,

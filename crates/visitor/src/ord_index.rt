@@ -1,7 +1,6 @@
 // The walk by key.
 ghost use mathlib.Core.Path.{_≡_};
-ghost use mathlib.Core.Bool.{false};
-ghost use Rattle.visitor.specs.Visited.{KeyStands, keyAt, keyOver, keyVisit};
+ghost use Rattle.visitor.specs.Visited.{keyHead, KeyStands, keyAt, keyOver, keyVisit};
 use arena::Key;
 use arena::Rank;
 use arena::Slot;
@@ -24,7 +23,7 @@ pub struct OrdIndexVisitor {
 impl OrdIndexVisitor {
     // At the head of a list, in an arena of m levels.
     pub fn new(list: Slot, m: usize, target: Key, allowance: u32) -> OrdIndexVisitor
-        ensures { λ r. ⌜ (r .list ≡ list) × (r .level ≡ m) × (r .current ≡ list) × (r .rank .0 ≡ 0) × (r .target ≡ target) × (r .left ≡ allowance) × (r .found ≡ false) × (r .over ≡ false) ⌝ }
+        ensures { λ r. ⌜ r ≡ keyHead list m target allowance ⌝ }
     {
         OrdIndexVisitor {
             list,

@@ -1,5 +1,6 @@
-// Walks Q of document 01 by key and by rank: with the walks by value, and with the visitors given back and lent. Each line ends in the numbers
-// that the walk answers, so that the lines of one key, or of one rank, can be compared.
+// Walks Q of document 01 by key and by rank: with the walks by value, and with the visitors given back, lent, and lent again. Each line ends in the
+// numbers that the walk answers, so that the lines of one key, or of one rank, can be compared. A second walk of the same visitor compares once more
+// where the key is missing and one follows, and never where it is found.
 mod arena_of_q;
 mod printing;
 
@@ -23,19 +24,31 @@ fn levels(w: &[u32]) -> usize
 fn by_key(w: &[u32], m: usize, key: Key, allowance: u32)
     requires { ⌜ Listed (now w) m 0 ⌝ }
 {
-    let v = OrdIndexVisitor::new(LIST, key, allowance);
+    let v = OrdIndexVisitor::new(LIST, m, key, allowance);
     printing::search(key, key_walk::search(w, m, LIST, key, allowance));
     printing::key_visit(b"  given back", allowance, v.traversed(w, m));
     printing::key_visit(b"  lent", allowance, v.lent(w, m));
+    printing::key_visit(b"  again", allowance, v.again(w, m));
+}
+
+// A visitor that ran out of comparisons goes on once it is given more.
+fn given_more(w: &[u32], m: usize, key: Key, allowance: u32, more: u32)
+    requires { ⌜ Listed (now w) m 0 ⌝ }
+{
+    let v = OrdIndexVisitor::new(LIST, m, key, allowance);
+    let mut u = v.lent(w, m);
+    u.left = more;
+    printing::key_visit(b"  given more", more, u.lent(w, m));
 }
 
 fn by_rank(w: &[u32], m: usize, target: Rank)
     requires { ⌜ Listed (now w) m 0 ⌝ }
 {
-    let v = IndexVisitor::new(LIST, target);
+    let v = IndexVisitor::new(LIST, m, target);
     printing::reached(target, rank_walk::by_rank(w, m, LIST, target));
     printing::rank_visit(b"  given back", v.traversed(w, m));
     printing::rank_visit(b"  lent", v.lent(w, m));
+    printing::rank_visit(b"  again", v.again(w, m));
 }
 
 fn keys(w: &[u32], m: usize)
@@ -48,6 +61,7 @@ fn keys(w: &[u32], m: usize)
     by_key(w, m, 31, 100);
     by_key(w, m, 25, 5);
     by_key(w, m, 25, 4);
+    given_more(w, m, 25, 4, 5);
 }
 
 fn ranks(w: &[u32], m: usize)
