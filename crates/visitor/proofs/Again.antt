@@ -1,5 +1,5 @@
 -- A visitor can be traversed again: after every walk it stands in its list, and a walk on from there stays. Rests on Ends.
-use Prim.Native.Nat.{ℕ, zero, suc, _+_, _-_, _≤_, _<_}
+use Prim.Native.Nat.{ℕ, zero, suc, _-_, _≤_, _<_}
 use mathlib.Core.Path.{_≡_, refl, sym, ap, subst, _∙_}
 use mathlib.Core.Bool.{Bool, true, false, cond}
 use mathlib.Core.List.{List, [], _∷_}
@@ -7,7 +7,7 @@ use lib.Dec.{leb}
 use lib.ListN.{length, drop, length-drop}
 use lib.Seq.{drop-drop}
 use native.Mathlib.Omega.{arith}
-use borrow.Author.Tests.{le-leb, lt-leb, lt-ltb}
+use borrow.Author.Tests.{le-leb}
 use Rattle.model.specs.Closed.{go, asks, ends, keyIs}
 use Rattle.model.specs.Nodes.{Node}
 use Rattle.model.specs.Walks.{stand}

@@ -16,9 +16,8 @@ use Rattle.model.proofs.Searching.{endAt, walk-is}
 use Rattle.model.proofs.ByRank.{from-there, from-past, from-behind}
 use Rattle.arena.specs.declared.Slot.{Slot}
 use Rattle.arena.specs.declared.Rank.{Rank}
-use Rattle.key_walk.specs.Midway.{endFrom, tallyFrom, Arrived}
-use Rattle.key_walk.specs.declared.Visitor.{Visitor}
-use Rattle.visitor.specs.Visited.{keyWalkOn, keyAt, keyEnd, keyOver, keyVisit, rankAt, rankVisit}
+use Rattle.key_walk.specs.Midway.{Arrived}
+use Rattle.visitor.specs.Visited.{keyAt, keyEnd, keyOver, keyVisit, rankAt, rankVisit}
 use Rattle.visitor.specs.declared.ord_index.OrdIndexVisitor.{OrdIndexVisitor}
 use Rattle.visitor.specs.declared.index.IndexVisitor.{IndexVisitor}
 

@@ -14,7 +14,6 @@ use types.Kit.{Given, ‵, _⊛_, _$_, _∵_, !, qed, by, move, drop, fsplit}
 use types.Run.{look, init, forget, stop, from, load, addr, of-opd, and-then, no-more, assigns, land, returns, enter, alloc1, alloc0, params1, pass1, pass0, free1, free0}
 use sound.WpLaws.{FmC, fmOf}
 use denote.RattleType.{owns}
-use denote.Laws.{Is}
 use denote.Builtin.{u32, usize}
 use denote.Ref.{RefT}
 use denote.Slice.{ShrSlice, shr-slice-lawful}

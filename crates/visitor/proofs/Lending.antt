@@ -15,12 +15,11 @@ use prog.Wp.{Heap, Calls, Loops, WpFn, Tables}
 use ghost.Atoms.{Atoms, sem}
 use contract.Lifetimes.{AllOutlive}
 use contract.Monad.{fact}
-use types.Kit.{Given, Item, Goal, Soaks, Seq, ‵, raw, _⊛_, ⋆, some, later, given, learn, check, _$_, _∵_, !, qed, by, move, keep, drop, use1, use2}
+use types.Kit.{Given, Item, Goal, Soaks, Seq, ‵, raw, _⊛_, ⋆, some, later, given, learn, check, _$_, _∵_, !, qed, move, keep, drop, use1, use2}
 use types.Kit.{use3, split, join, pick, rewrite, fsplit, fjoin, fpick, fpack, feqL, suffices, frame, await, done}
 use types.Tokens.{lft-new, lft-end}
-use types.Run.{look, init, forget, stop, from, load, addr, of-opd, and-then, no-more, assigns, land, returns, enter, alloc1, alloc0, params1, pass1, pass0, free1, free0}
 use types.SemTy.{Body}
-use sound.WpLaws.{FmC, fmOf, WpFn-mono}
+use sound.WpLaws.{WpFn-mono}
 use denote.RattleType.{owns}
 use denote.Laws.{Is, shows}
 use denote.Memory.{cellAt, partAt, partOf, mem}
@@ -28,19 +27,18 @@ use denote.Lend.{lends-ref, ref-back}
 use denote.Plain.{uint-vals, uint-tells, uint-makes}
 use denote.Builtin.{u32, usize, unit}
 use denote.Ref.{RefT, MutRef}
-use denote.Slice.{sliceVal, ShrSlice, slice-vals, shr-slice-tells, shr-slice-copy, shr-slice-lawful}
+use denote.Slice.{sliceVal, ShrSlice, slice-vals, shr-slice-tells, shr-slice-copy}
 use denote.Signature.{plain}
 use denote.Steps.{only, owned, peeks, heard, nothing}
 use denote.Struct.Steps.{spelt}
 use denote.Struct.Laws as LL
-use denote.Triple.Statement.{Contract, Triple}
-use denote.Triple.Call.{calls-at}
+use denote.Triple.Statement.{Contract}
 use denote.Triple.Entry.{onEntry}
 use denote.Triple.Spec.{Meets, tripleOf}
-use denote.Triple.Walked.{says, needs, Stays, stay-none, stay-none-slice, walkOf, goes-none, goes-none-slice, Walks, ends-at, walked, walk-meets}
+use denote.Triple.Walked.{says, needs, Stays, stay-none, stay-none-slice, walkOf, goes-none, goes-none-slice, ends-at, walked, walk-meets}
 use denote.Exit.{yes}
 use denote.Triple.Clauses.{ensured, lasts, Lasts, closing}
-use Rattle.visitor.proofs.Shapes.{PlainWalk, Vis, low, τ, back-signature, back-ended, back-clauses, stored-signature, stored-ended, stored-clauses, lent}
+use Rattle.visitor.proofs.Shapes.{PlainWalk, Vis, low, τ, back-signature, back-ended, back-clauses, stored-signature, stored-ended, stored-clauses}
 
 module _ (X : PlainWalk) (callee : Name) where
   abbrev pub stayed : Stays (back-ended X .signature .params) (back-ended X .kept)

@@ -1,7 +1,6 @@
 -- `rank_walk::index::read` meets its contract: the slot at rank i + 1 holds the key at index i.
 use mathlib.Core.Path.{refl, _∙_}
 use native.Mathlib.Omega.{arith}
-use borrow.Author.Needs.{needs}
 use Rattle.model.specs.Arena.{keyColumn}
 use Rattle.walk.proofs.Standing.{at-head, at-rank, length-most, cell-here, key-here}
 use Rattle.rank_walk.proofs.index.read.Statement.{statement}
