@@ -50,7 +50,7 @@ asks-tally (suc h) t ys = omega arith
 -- where it begins, with the stages k and below to come
 pub midway-start : {w : List ℕ} {m a k s r : ℕ} (t allowance : ℕ) → Standing w m a (length (nodes w a)) k s r
     → Midway w m a t (r + ends k t (drop r (nodes w a))) (tally k t (drop r (nodes w a))) allowance k s r allowance
-midway-start t allowance g = record { stands = g; rank = refl; left = refl; fall = omega arith }
+midway-start t allowance g = record { stands = g; rank = refl; left = refl }
 
 module _ {w : List ℕ} {m a t E T allowance k s r n : ℕ} (g : Midway w m a t E T allowance k s r n) where
   abbrev ys : List Node
@@ -61,7 +61,7 @@ module _ {w : List ℕ} {m a t E T allowance k s r n : ℕ} (g : Midway w m a t 
   down l c e p q b =
       let x = rw (e, rw e at p) at (g .rank) in
       let y = rw (e, rw e at p) at (g .left) in
-      record { stands = lowered (g .stands) l (omega arith); rank = omega arith; left = omega (arith, rw e at q); fall = omega (arith, g .fall) }
+      record { stands = lowered (g .stands) l (omega arith); rank = omega arith; left = omega (arith, rw e at q) }
 
   module _ (to : ℕ) (e : to ≡ target k ys) where
     pub down-absent : to ≡ N → 0 < k → Midway w m a t E T allowance (k - 1) s r n
@@ -99,7 +99,6 @@ module _ {w : List ℕ} {m a t E T allowance k s r n : ℕ} (g : Midway w m a t 
               stands = rw u at (j .1 .stands);
               rank = omega (arith, g .rank, rw v at (ends-on k t ys d z), u);
               left = omega (arith, g .left, rw v at (tally-on k t ys d z));
-              fall = omega (arith, g .fall);
             }
 
 -- ---- where the last stage ends ----
@@ -112,7 +111,7 @@ module _ {w : List ℕ} {m a t E T allowance s r n : ℕ} (g : Midway w m a t E 
       → Arrived w m a t E T allowance met p q (n - c)
   ended met c p q x y b i k z =
       let here : r ≡ E = omega (arith, g .rank) in
-      record { stands = k; is = rw here at i; rank = rw here at z; left = omega (arith, g .left, g .fall) }
+      record { stands = k; is = rw here at i; rank = rw here at z; left = omega (arith, g .left) }
 
   pub ends-absent : to ≡ N → Arrived w m a t E T allowance false s r n
   ends-absent z = elim (look (g .stands .owner) to e) [

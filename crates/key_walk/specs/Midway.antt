@@ -1,5 +1,5 @@
 -- Where the walk by key stands between two looks, and where it ends, in its closed form. Rests on model's specs and on walk's Standing.
-use Prim.Native.Nat.{ℕ, suc, _+_, _≤_, _<_}
+use Prim.Native.Nat.{ℕ, suc, _+_, _<_}
 use mathlib.Core.Path.{_≡_}
 use mathlib.Core.Bool.{Bool, true, false, cond}
 use mathlib.Core.List.{List}
@@ -38,7 +38,6 @@ pub record Midway (w : List ℕ) (m a t E T allowance k s r n : ℕ) : Type 0 wh
   pub stands : Standing w m a (length (nodes w a)) k s r
   pub rank : r + ends k t (drop r (nodes w a)) ≡ E
   pub left : allowance + tally k t (drop r (nodes w a)) ≡ n + T
-  pub fall : n ≤ allowance
 
 -- The walk that began at `from`, at stage j, has come to v, and the stages k and below are to come.
 pub record Carries (w : List ℕ) (m a t j : ℕ) (from : Visitor) (k : ℕ) (v : Visitor) : Type 0 where

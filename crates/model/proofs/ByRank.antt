@@ -182,7 +182,7 @@ pub from-behind : (M t : ℕ) (xs : List Node) (r : ℕ) → t < r → end-from 
 from-behind M t xs r k = ap (λ (p : ℕ). nextRanks t p (drop p xs)) (descend-behind M t xs r k) ∙ next-behind t r (drop r xs) k
 
 -- "target 0 ends at the head at once, all precursors being the head at rank 0. Above the length it ends with none."
-pub rank-walk-is : (M t : ℕ) (xs : List Node) → rankWalk M t xs ≡ cond (leb t (length xs)) (some t) none
+rank-walk-is : (M t : ℕ) (xs : List Node) → rankWalk M t xs ≡ cond (leb t (length xs)) (some t) none
 rank-walk-is M t xs = from-is M t xs 0 (omega arith) (omega arith)
 
 pub rank-head : (M : ℕ) (xs : List Node) → rankWalk M 0 xs ≡ some 0

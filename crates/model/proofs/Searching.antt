@@ -92,7 +92,7 @@ walk-is (suc h) t xs r m =
     ap (λ (s : Stand). byNext t (descend h t xs s) (drop (descend h t xs s .rank) xs)) (along-is (length xs) h t xs r m (omega (arith, length-drop r xs)))
     ∙ walk-is h t xs (r + d) (m + n) ∙ ap₂ (λ (p k : ℕ). endAt (keyIs t (drop p xs)) p k) e f
 
-pub key-walk-is : (M t : ℕ) (xs : List Node)
+key-walk-is : (M t : ℕ) (xs : List Node)
     → keyWalk M t xs ≡ cond (keyIs t (drop (ends M t xs) xs)) (found (stand (suc (ends M t xs)) (tally M t xs))) (missing (stand (ends M t xs) (tally M t xs)))
 key-walk-is M t xs = walk-is M t xs 0 0 ∙ ap₂ (λ (p k : ℕ). endAt (keyIs t (drop p xs)) p k) (zero-add (ends M t xs)) (zero-add (tally M t xs))
 
