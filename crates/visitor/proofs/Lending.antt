@@ -41,7 +41,7 @@ use denote.Triple.Clauses.{ensured, lasts, Lasts, closing}
 use Rattle.visitor.proofs.Shapes.{PlainWalk, Vis, low, τ, back-signature, back-ended, back-clauses, stored-signature, stored-ended, stored-clauses}
 
 module _ (X : PlainWalk) (callee : Name) where
-  abbrev pub stayed : Stays (back-ended X .signature .params) (back-ended X .kept)
+  abbrev stayed : Stays (back-ended X .signature .params) (back-ended X .kept)
   stayed = (stay-none (λ _. Vis X) yes, (stay-none-slice (0 ∷ []) tt (plain (λ _. u32)) yes, (stay-none (λ _. usize) yes, tt)))
 
   -- ---- a visitor in a local's cell
@@ -68,23 +68,23 @@ module _ (X : PlainWalk) (callee : Name) where
 
   module _ {M : Type 1} (𝓤 : URA M) (H : Heap 𝓤) (A : Atoms 𝓤) (W : Given 𝓤 H A) (κ : Lft) (bounds : AllOutlive 1 (back-signature X .outlives) (κ, tt)) (q : Share)
       (h : X .type .D) (w : RefT (List ℕ)) (n : ℕ) where
-    abbrev pub a : X .type .D × (RefT (List ℕ) × (ℕ × Unit {0}))
+    abbrev a : X .type .D × (RefT (List ℕ) × (ℕ × Unit {0}))
     a = (h, (w, (n, tt)))
 
     -- the machine value of w
     abbrev pub wv : Val
     wv = sliceVal (w .ptr) (length (w .now))
 
-    abbrev pub at : List Val × (List Val × (List Val × Unit {0}))
+    abbrev at : List Val × (List Val × (List Val × Unit {0}))
     at = (low X h ∷ [], (wv ∷ [], (vint w64 n ∷ [], tt)))
 
     abbrev found : X .type .D
     found = X .walked-to (w .now) n h
 
-    abbrev pub Post : Val → SProp 𝓤
+    abbrev Post : Val → SProp 𝓤
     Post = walkOf 𝓤 H A (back-ended X) stayed (back-clauses X 𝓤) .post (((κ, tt), (q, tt), bounds, a, at), tt)
 
-    abbrev pub Own : Fml
+    abbrev Own : Fml
     Own = ShrSlice (named 1) κ u32 .own w (wv ∷ [])
 
     module _ (α l : ℕ) (δ : GName) where
@@ -129,7 +129,7 @@ module _ (X : PlainWalk) (callee : Name) where
       lender = ‵ (flent (α ∷ []) (Body (mem (Vis X)) l 0 δ))
 
     -- the record in a local's cell, the token of w and what w owns
-    abbrev pub with-cell : ℕ → X .type .D → List (Item 𝓤) → List (Item 𝓤)
+    abbrev with-cell : ℕ → X .type .D → List (Item 𝓤) → List (Item 𝓤)
     with-cell l v Γ = ‵ (fat fullShare (τ X) l 0 (low X v)) ∷ (‵ (flft κ q) ⊛ ‵ ftrue) ∷ ‵ Own ∷ Γ
 
     module _ {K : Type 0} {Γ : List (Item 𝓤)} {G : Goal 𝓤 H} (t : K) (soaks : Soaks G) (l : ℕ) where
