@@ -2,7 +2,7 @@
 use Prim.Native.Nat.{ℕ, suc, _+_, _≤_, _<_}
 use mathlib.Core.Path.{_≡_, refl}
 use mathlib.Core.List.{List}
-use lib.ListN.{length, take, getD}
+use lib.ListN.{length, take}
 use lib.Seq.{length-take-le}
 use native.Mathlib.Omega.{arith}
 use Rattle.model.specs.Nodes.{slotAt}
@@ -11,7 +11,7 @@ use Rattle.model.specs.Cells.{Cell}
 use Rattle.model.specs.Passes.{nodes}
 use Rattle.model.proofs.Walk.{last-le}
 use Rattle.arena.specs.Linked.{LinkIn}
-use Rattle.arena.specs.Owners.{Listed, NodeThere, Leads}
+use Rattle.arena.specs.Owners.{slotIn, rankIn, Listed, NodeThere, Leads}
 use Rattle.arena.specs.declared.Path.{Path}
 use Rattle.draw.specs.Blocks.{Run}
 use Rattle.draw.specs.declared.blocks.Block.{Block}
@@ -42,8 +42,8 @@ module _ {w : List ℕ} {m a i : ℕ} (g : NodeThere w m a i) where
     its-link = link-in (at-rank (i + 1) (g .listed) (omega (arith, g .index)) e)
 
 module _ {w : List ℕ} {m a i : ℕ} {p : Path} (g : Listed w m a) (k : i ≤ length (nodes w a)) (t : Leads w m a i p) {l : ℕ} (j : l < m) where
-  pub rank-before : getD (p .ranks) l 0 ≤ i
+  pub rank-before : rankIn (p .ranks) l ≤ i
   rank-before = omega (arith, t .before .rank l j, last-le (suc l) (take i (nodes w a)), length-take-le i (nodes w a) k)
 
-  pub link-before : LinkIn w m (getD (p .slots) l 0) l
-  link-before = link-in (at-rank (getD (p .ranks) l 0) g (omega (arith, rank-before)) (t .before .slot l j)) j
+  pub link-before : LinkIn w m (slotIn (p .slots) l) l
+  link-before = link-in (at-rank (rankIn (p .ranks) l) g (omega (arith, rank-before)) (t .before .slot l j)) j

@@ -5,7 +5,7 @@ use mathlib.Core.Path.{_≡_, refl, sym, subst}
 use mathlib.Core.Bool.{false}
 use mathlib.Core.List.{List, [], _∷_}
 use lib.Dec.{leb}
-use lib.ListN.{length, take, drop, getD}
+use lib.ListN.{length, take, drop}
 use lib.Seq.{getD-take, length-take-le}
 use native.Mathlib.Omega.{arith}
 use Rattle.model.specs.Nodes.{Node, node, N, slotAt, heightAt}
@@ -17,7 +17,7 @@ use Rattle.model.proofs.Tests.{hit, miss, test}
 use Rattle.model.proofs.Walk.{last-le}
 use Rattle.model.proofs.Precursor.{last-node}
 use Rattle.arena.specs.Linked.{wordsOf}
-use Rattle.arena.specs.Owners.{Listed, NodeThere, Owner, Leads}
+use Rattle.arena.specs.Owners.{slotIn, rankIn, Listed, NodeThere, Owner, Leads}
 use Rattle.arena.specs.declared.Path.{Path}
 use Rattle.arena.specs.declared.links.Link.{Link}
 use Rattle.arena.proofs.Places.{its-link}
@@ -61,17 +61,17 @@ far-is {w} {m} {a} {r} {s} {l} e o x q =
     cc
 
 module _ {w : List ℕ} {m a i : ℕ} {p : Path} (g : Listed w m a) (k : i ≤ length (nodes w a)) (t : Leads w m a i p) {l : ℕ} (j : l < m) where
-  owner-before : Owner w a (getD (p .ranks) l 0) (getD (p .slots) l 0) (suc l)
+  owner-before : Owner w a (rankIn (p .ranks) l) (slotIn (p .slots) l) (suc l)
   owner-before = record {
     passes = g .passes;
     list = g .list;
     within = omega (arith, rank-before g k t j);
     slot-is = t .before .slot l j;
-    tall = tall-last (decode w .levels) (suc l) i (nodes w a) (getD (p .ranks) l 0) k (omega (arith, g .levels)) (t .before .rank l j);
+    tall = tall-last (decode w .levels) (suc l) i (nodes w a) (rankIn (p .ranks) l) k (omega (arith, g .levels)) (t .before .rank l j);
     level = omega (arith, g .levels);
   }
 
-  pub holds-before : (x : Link) → wordsOf x ≡ linkAt m w (getD (p .slots) l 0) l → Holds w a l i (record { from = getD (p .ranks) l 0; far = x .distance })
+  pub holds-before : (x : Link) → wordsOf x ≡ linkAt m w (slotIn (p .slots) l) l → Holds w a l i (record { from = rankIn (p .ranks) l; far = x .distance })
   holds-before x q =
       let far = far-is (g .levels) owner-before x q in
       record {

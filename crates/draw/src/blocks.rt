@@ -13,6 +13,7 @@ use arena::Index;
 use arena::Path;
 use arena::Rank;
 use arena::Slot;
+use rank_walk::Spot;
 
 // The lists of an arena, at most.
 pub const LISTS: u32 = 16;
@@ -56,7 +57,11 @@ pub fn slot_at(w: &[u32], m: usize, list: Slot, i: u32) -> Slot
     requires { ⌜ NodeThere (now w) m (list .0) i ⌝ }
     ensures { λ r. ⌜ r .0 ≡ slotAt (list .0) (nodes (now (w .entry)) (list .0)) (i + 1) ⌝ }
 {
-    rank_walk::reach(w, m, list, Rank::from_index(Index(i)))
+    let head = Spot {
+        slot: list,
+        rank: Rank::HEAD,
+    };
+    rank_walk::reach(w, m, list, head, m, Rank::from_index(Index(i)))
 }
 
 pub fn key_at(w: &[u32], m: usize, list: Slot, i: u32) -> u32
@@ -96,9 +101,9 @@ pub fn held_before(w: &[u32], m: usize, list: Slot, i: u32, path: Path, l: usize
 {
     let slots = path.slots;
     let ranks = path.ranks;
-    let owner = Slot(slots[l]);
+    let owner = slots[l];
     Held {
-        from: ranks[l],
+        from: ranks[l].0,
         far: arena::link_at(w, m, owner, l).distance,
     }
 }

@@ -5,17 +5,17 @@ use borrow.Author.Needs.{needs}
 use Rattle.draw.proofs.blocks.held_before.Statement.{statement}
 use Rattle.draw.proofs.blocks.held_before.Tie as tie
 
+mul-owner : tie.Need-mul-owner
+mul-owner c = search needs
+
+array-copy-out-owner : tie.Need-array-copy-out-owner
+array-copy-out-owner c = search needs
+
 mul-t10 : tie.Need-mul-t10
 mul-t10 c = search needs
 
-array-read-t13 : tie.Need-array-read-t13
-array-read-t13 c = search needs
-
-mul-t10-2 : tie.Need-mul-t10-2
-mul-t10-2 c = search needs
-
-array-read-t13-2 : tie.Need-array-read-t13-2
-array-read-t13-2 c = search needs
+element-copy-out-t16 : tie.Need-element-copy-out-t16
+element-copy-out-t16 c = search needs
 
 link-at-requires : tie.Need-link-at-requires
 link-at-requires c κs =
@@ -29,4 +29,4 @@ returns c =
 
 pub held-before-spec : {M : Type 1} → statement M
 held-before-spec =
-    tie.close (tie.spec mul-t10 array-read-t13 mul-t10-2 array-read-t13-2 link-at-requires returns)
+    tie.close (tie.spec mul-owner array-copy-out-owner mul-t10 element-copy-out-t16 link-at-requires returns)

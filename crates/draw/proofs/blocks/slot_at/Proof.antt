@@ -1,7 +1,7 @@
 -- `draw::blocks::slot_at` meets its contract: the rank is one more than the index.
 use native.Mathlib.Omega.{arith}
 use Rattle.draw.proofs.Drawing.{few}
-use borrow.Author.Needs.{needs}
+use Rattle.walk.proofs.Standing.{at-head}
 use Rattle.draw.proofs.blocks.slot_at.Statement.{statement}
 use Rattle.draw.proofs.blocks.slot_at.Tie as tie
 
@@ -11,7 +11,9 @@ from-index-requires c κs =
     omega (arith, few (start .pre))
 
 reach-requires : tie.Need-reach-requires
-reach-requires c κs = search needs
+reach-requires c κs =
+    let (start, rank) : tie.Start × tie.After-from-index = search in
+    at-head (start .pre .listed) (omega (arith, rank .from-index .ensures, start .pre .index))
 
 returns : tie.Need-returns
 returns c =
