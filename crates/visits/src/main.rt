@@ -45,7 +45,7 @@ fn by_rank(w: &[u32], m: usize, target: Rank)
     requires { ⌜ Listed (now w) m 0 ⌝ }
 {
     let v = IndexVisitor::new(LIST, m, target);
-    printing::reached(target, rank_walk::by_rank(w, m, LIST, target));
+    printing::reached(m, target, rank_walk::by_rank(w, m, LIST, target));
     printing::rank_visit(b"  given back", v.traversed(w, m));
     printing::rank_visit(b"  lent", v.lent(w, m));
     printing::rank_visit(b"  again", v.again(w, m));

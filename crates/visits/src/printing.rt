@@ -1,6 +1,9 @@
-// What a walk answers, as a line: by key `found place tally`, or `beyond` with the tally; by rank `slot rank`, or `none`.
+// What a walk answers, as a line: by key `found place tally`, or `beyond` with the tally; by rank `slot rank`, or `none`, and for the walk that notes
+// them the precursors of level 0 and on, as `slot@rank`.
+ghost use Prim.Native.Nat.{_≤_};
 use arena::Key;
 use arena::Rank;
+use arena::Slot;
 use key_walk::Searched;
 use rank_walk::Ended;
 use rank_walk::Reached;
@@ -75,7 +78,23 @@ pub fn key_visit(label: &[u8], allowance: u32, v: OrdIndexVisitor) {
     answer(bit(v.found), place(v), spent(allowance, v.left));
 }
 
-pub fn reached(target: Rank, r: Reached) {
+fn precursors(m: usize, slots: [Slot; 16], ranks: [Rank; 16])
+    requires { ⌜ m ≤ 16 ⌝ }
+{
+    io::write_all(1, b", precursors");
+    let mut l: usize = 0;
+    while l < m {
+        let slot = slots[l].0;
+        let rank = ranks[l].0;
+        one(slot);
+        Text::new().byte(b'@').decimal(rank).print();
+        l += 1;
+    }
+}
+
+pub fn reached(m: usize, target: Rank, r: Reached)
+    requires { ⌜ m ≤ 16 ⌝ }
+{
     io::write_all(1, b"rank");
     one(target.0);
     io::write_all(1, b":");
@@ -89,6 +108,9 @@ pub fn reached(target: Rank, r: Reached) {
             io::write_all(1, b" none");
         }
     }
+    let slots = r.slots;
+    let ranks = r.ranks;
+    precursors(m, slots, ranks);
     end();
 }
 

@@ -1,7 +1,7 @@
 -- `visits::by_rank` meets its contract: a new visitor stands at the head of the list.
 use native.Mathlib.Omega.{arith}
 use borrow.Author.Needs.{needs}
-use Rattle.walk.proofs.Standing.{at-head}
+use Rattle.walk.proofs.Standing.{at-head, levels-most}
 use Rattle.visits.proofs.by_rank.Statement.{statement}
 use Rattle.visits.proofs.by_rank.Tie as tie
 
@@ -12,7 +12,9 @@ by-rank-requires : tie.Need-by-rank-requires
 by-rank-requires c κs = search needs
 
 reached-requires : tie.Need-reached-requires
-reached-requires c κs = search needs
+reached-requires c κs =
+    let start : tie.Start = search in
+    levels-most {i = 0} (at-head (start .pre) (omega arith))
 
 slice-aggregate-rank-visit : tie.Need-slice-aggregate-rank-visit
 slice-aggregate-rank-visit c = search needs
