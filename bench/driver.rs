@@ -5,6 +5,8 @@
 //!
 //! 256 readings, 8 levels, levelled heights; the arena is that of the shift report (2 lists, 8 levels, 400 nodes).
 
+#[cfg(ours)]
+mod c_calls;
 mod crate_engine;
 #[cfg(ours)]
 mod our_engine;

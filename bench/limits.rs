@@ -6,17 +6,10 @@
 //! needs more; `search` and `read`, of the reading that takes the longest walk; `search-spread` and `read-spread`, of readings
 //! all over the list, each once; or `check`.
 
+mod c_calls;
+
+use c_calls::{core_insert, core_read, core_search, raw};
 use std::hint::black_box;
-
-#[allow(dead_code)]
-#[path = "../examples/rust/raw.rs"]
-mod raw;
-
-unsafe extern "C" {
-    fn core_search(w: *const u32, n: usize, m: usize, list: u32, key: u32, allowance: u32) -> u32;
-    fn core_read(w: *const u32, n: usize, m: usize, list: u32, index: u32) -> u32;
-    fn core_insert(w: *mut u32, n: usize, m: usize, list: u32, key: u32, height: u32);
-}
 
 /// The key of a rank: all differ.
 fn key(rank: u32) -> u32 {

@@ -1,23 +1,10 @@
-//! The proved library through its C interface, where a slice crosses as pointer and length: the public calls, and the core functions
-//! that they call once the arena has passed the check and the arguments are accepted.
+//! The proved library as an engine of the driver: the public calls, and the core functions that they call once the arena has passed the
+//! check and the arguments are accepted.
 
+use crate::c_calls::{
+    core_append, core_insert, core_read, core_remove_at, core_remove_key, core_search, core_split_at, core_split_key, core_truncate, raw,
+};
 use crate::{Call, Engine, LEVELS, NODES};
-
-#[allow(dead_code)]
-#[path = "../examples/rust/raw.rs"]
-mod raw;
-
-unsafe extern "C" {
-    fn core_search(w: *const u32, n: usize, m: usize, list: u32, key: u32, allowance: u32) -> u32;
-    fn core_read(w: *const u32, n: usize, m: usize, list: u32, index: u32) -> u32;
-    fn core_insert(w: *mut u32, n: usize, m: usize, list: u32, key: u32, height: u32);
-    fn core_remove_key(w: *mut u32, n: usize, m: usize, list: u32, key: u32) -> u32;
-    fn core_remove_at(w: *mut u32, n: usize, m: usize, list: u32, index: u32) -> u32;
-    fn core_truncate(w: *mut u32, n: usize, m: usize, list: u32, count: u32);
-    fn core_split_at(w: *mut u32, n: usize, m: usize, from: u32, to: u32, index: u32);
-    fn core_split_key(w: *mut u32, n: usize, m: usize, from: u32, to: u32, key: u32);
-    fn core_append(w: *mut u32, n: usize, m: usize, a: u32, b: u32);
-}
 
 pub struct Public(Vec<u32>);
 pub struct Core(Public);

@@ -1,4 +1,4 @@
--- Between two bytes of the input: the lent words and the line's numbers lie in the slices that hold them. Rests on script's `Within`.
+-- Between two bytes of the input: the lent words and the line's numbers lie in the slices that hold them. Rests on script_line's `Within`.
 use Prim.Native.Nat.{ℕ, _≤_}
 use mathlib.Core.List.{List}
 use lib.ListN.{length}

@@ -1,4 +1,4 @@
--- A name as one number, as `script` reads it: five bits a letter, `a` is 1, the first letter highest. Rests on nothing.
+-- A name as one number, as `script_line` reads it: five bits a letter, `a` is 1, the first letter highest. Rests on nothing.
 use Prim.Native.Nat.{ℕ, _+_, _*_, _%_}
 use Prim.Native.Char.{code}
 use Prim.Native.String.{String, [], _∷_}

@@ -1,4 +1,4 @@
-// The names of a call script's items as `script` reads them: five bits a letter, a = 1, the first letter highest.
+// The names of a call script's items as `script_line` reads them: five bits a letter, a = 1, the first letter highest.
 pub const NEW: u64 = 14519;
 
 pub const WORDS: u64 = 24627347;

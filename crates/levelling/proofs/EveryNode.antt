@@ -2,10 +2,10 @@
 use Prim.Native.Nat.{ℕ, suc, _+_, _≤_, _<_}
 use mathlib.Core.Path.{_≡_, refl, sym, ap, ap₂, _∙_, subst}
 use mathlib.Core.List.{List, [], _∷_, _++_, append-assoc}
-use lib.ListN.{length, take, drop, set, replicate, length-append, length-drop, length-replicate, getD-replicate, drop-of-length-le, take-append-drop}
+use lib.ListN.{length, take, drop, set, replicate, length-append, length-drop, length-replicate, drop-of-length-le, take-append-drop}
 use lib.Seq.{set-set, set-getD, drop-cons, take-at, drop-at, length-take-le}
 use native.Mathlib.Omega.{arith}
-use Rattle.model.specs.Nodes.{Node, node, N, at, slotAt}
+use Rattle.model.specs.Nodes.{Node, node, N, at}
 use Rattle.model.specs.Lists.{twos, levelFrom}
 use Rattle.model.specs.Arena.{State, listOf, putList, encode}
 use Rattle.model.specs.Calls.{doLevel}
@@ -13,11 +13,12 @@ use Rattle.model.specs.Cells.{Cell, cellAt}
 use Rattle.model.specs.Passes.{decode, nodes}
 use Rattle.model.proofs.Counting.{list-few}
 use Rattle.model.proofs.Levels.{twos-le}
-use Rattle.arena.specs.Owners.{slotIn, rankIn, Listed, Leads, NodeThere}
+use Rattle.arena.specs.Owners.{Listed, Leads, NodeThere}
 use Rattle.arena.specs.declared.Slot.{Slot}
 use Rattle.arena.specs.declared.Rank.{Rank}
 use Rattle.arena.specs.declared.Path.{Path}
 use Rattle.arena.proofs.Places.{fits, length-word}
+use Rattle.walk.proofs.Noting.{none-before}
 use Rattle.levelling.specs.NodeByNode.{levelledAt, levelledFrom, Full, CanRelevel, Relevelled}
 use Rattle.levelling.proofs.OneNode.{listed-in, is-T, nodes-v}
 
@@ -92,24 +93,12 @@ pub level-start : {w : List ℕ} {m a n : ℕ} {path : Path} → Listed w m a �
     → Levelling w m a n 0 w path
 level-start {w} {m} {a} {n} {path} p en es er ee = record {
   listed = p;
-  leads = record {
-    before = record {
-      rank = λ l k. rank-at l (omega (arith, small p));
-      slot = λ l k. slot-at l (omega (arith, small p)) ∙ sym (ap (slotAt a (nodes w a)) (rank-at l (omega (arith, small p))));
-    };
-    end = ee;
-  };
+  leads = record { before = rw (es, er) (none-before p); end = ee };
   full = record { slots = ap length es ∙ length-replicate 16 (slot a); ranks = ap length er ∙ length-replicate 16 first-rank };
   rest = refl;
   count = count-is p en;
   size = refl;
 }
-  where
-    rank-at : (l : ℕ) → l < 16 → rankIn (path .ranks) l ≡ 0
-    rank-at l k = ap (λ (t : List Rank). rankIn t l) er ∙ ap (λ (r : Rank). r .0) (getD-replicate 16 l first-rank first-rank k)
-
-    slot-at : (l : ℕ) → l < 16 → slotIn (path .slots) l ≡ a
-    slot-at l k = ap (λ (t : List Slot). slotIn t l) es ∙ ap (λ (s : Slot). s .0) (getD-replicate 16 l (slot a) (slot 0) k)
 
 pub level-turn : {w₀ : List ℕ} {m a n i : ℕ} {w : List ℕ} {path : Path} → Levelling w₀ m a n i w path → i < n → {k h : ℕ} → k ≡ i + 1 → h ≡ twos m k
     → {u : List ℕ} {q : Path} → Relevelled w m a i h u q → length u ≡ length w → Levelling w₀ m a n (i + 1) u q

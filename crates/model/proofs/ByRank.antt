@@ -181,15 +181,9 @@ next-behind t r (y ∷ ys) k = elim (same? r t) [ same e p ↦ absurd (omega ari
 pub from-behind : (M t : ℕ) (xs : List Node) (r : ℕ) → t < r → end-from M t xs r ≡ none
 from-behind M t xs r k = ap (λ (p : ℕ). nextRanks t p (drop p xs)) (descend-behind M t xs r k) ∙ next-behind t r (drop r xs) k
 
--- "target 0 ends at the head at once, all precursors being the head at rank 0. Above the length it ends with none."
+-- "target 0 ends at the head at once .. Above the length it ends with none." That all precursors of target 0 are the head is `rank-precursor` there.
 rank-walk-is : (M t : ℕ) (xs : List Node) → rankWalk M t xs ≡ cond (leb t (length xs)) (some t) none
 rank-walk-is M t xs = from-is M t xs 0 (omega arith) (omega arith)
-
-pub rank-head : (M : ℕ) (xs : List Node) → rankWalk M 0 xs ≡ some 0
-rank-head M xs = rank-walk-is M 0 xs ∙ (rw (le-leb 0 (length xs) (omega arith)) refl)
-
-pub rank-head-precursor : (M : ℕ) (xs : List Node) (l : ℕ) → l < M → rankPrecursor M 0 xs l ≡ 0
-rank-head-precursor M xs l k = rank-precursor M 0 xs l k
 
 pub rank-there : (M t : ℕ) (xs : List Node) → t ≤ length xs → rankWalk M t xs ≡ some t
 rank-there M t xs l = rank-walk-is M t xs ∙ (rw (le-leb t (length xs) l) refl)

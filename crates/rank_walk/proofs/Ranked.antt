@@ -1,9 +1,9 @@
 -- The walk by rank in document 01's own terms: what `seek` notes is what the model's walk by rank notes, and it ends where that one ends.
 -- Rests on Seeking and model's ByRank.
 use Prim.Native.Nat.{ℕ, suc, _+_, _-_, _≤_, _<_}
-use mathlib.Core.Path.{_≡_, sym, ap, _∙_}
+use mathlib.Core.Path.{_≡_, refl, sym, ap, _∙_}
 use mathlib.Core.List.{List}
-use lib.ListN.{length, take, replicate, getD-replicate}
+use lib.ListN.{length, take, replicate}
 use lib.Seq.{take-all, take-length}
 use native.Mathlib.Omega.{arith}
 use Rattle.model.specs.Closed.{last}
@@ -12,38 +12,24 @@ use Rattle.model.specs.Walks.{rankWalk}
 use Rattle.model.specs.Arena.{nextColumn}
 use Rattle.model.specs.Cells.{cellAt}
 use Rattle.model.specs.Passes.{nodes}
-use Rattle.model.proofs.ByRank.{rank-precursor, rank-head, rank-head-precursor, rank-there, rank-past}
-use Rattle.arena.specs.Owners.{rankIn, Listed, Leads}
+use Rattle.model.proofs.ByRank.{rank-precursor, rank-there, rank-past}
+use Rattle.arena.specs.Owners.{Listed, Leads}
 use Rattle.arena.specs.declared.Slot.{Slot}
-use Rattle.arena.specs.declared.Rank.{Rank}
 use Rattle.arena.specs.declared.Path.{Path}
 use Rattle.rank_walk.specs.Ranks.{endOf, WalkedByRank}
 use Rattle.rank_walk.specs.declared.Ended.{Ended}
 use Rattle.rank_walk.specs.declared.Ended.the-variants.{At, None}
 use Rattle.walk.proofs.Standing.{at-rank}
+use Rattle.walk.proofs.Noting.{none-before}
 use Rattle.rank_walk.proofs.Seeking.{steps}
 
 abbrev slot : ℕ → Slot
 slot s = record { 0 = s }
 
-abbrev first-rank : Rank
-first-rank = record { 0 = 0 }
-
 abbrev at-slot : ℕ → Ended
 at-slot s = At (slot s)
 
 module _ {w : List ℕ} {m a : ℕ} (g : Listed w m a) where
-  pub ranked-head : (t : ℕ) → t ≡ 0 → WalkedByRank w m a t (record { slots = replicate 16 (slot a); ranks = replicate 16 first-rank; ended = at-slot a })
-  ranked-head t e =
-      let few : m ≤ 16 = omega (arith, g .levels, g .passes .sizes .levels-most) in
-      let rank-is : (l : ℕ) → l < m → rankIn (replicate 16 first-rank) l ≡ 0
-      = λ l k. ap (λ (r : Rank). r .0) (getD-replicate 16 l first-rank first-rank (omega arith)) in
-      rw e (record {
-        rank = λ l k. rank-is l k ∙ sym (rank-head-precursor m (nodes w a) l k);
-        slot = λ l k. ap (λ (s : Slot). s .0) (getD-replicate 16 l (slot a) (slot 0) (omega arith)) ∙ sym (ap (slotAt a (nodes w a)) (rank-is l k));
-        ended = sym (ap (endOf a (nodes w a)) (rank-head m (nodes w a)));
-      })
-
   module _ (t i : ℕ) (p : Path) (k : Leads w m a i p) where
     precursors-are : take i (nodes w a) ≡ take (t - 1) (nodes w a) → (x : Ended) → x ≡ endOf a (nodes w a) (rankWalk m t (nodes w a))
         → WalkedByRank w m a t (record { slots = p .slots; ranks = p .ranks; ended = x })
@@ -65,3 +51,9 @@ module _ {w : List ℕ} {m a : ℕ} (g : Listed w m a) where
         let z : i ≡ t - 1 = omega arith in
         precursors-are (ap (λ (n : ℕ). take n (nodes w a)) z) (at-slot to)
         (ap at-slot (o .owner .slot-is) ∙ sym (ap (endOf a (nodes w a)) (rank-there m t (nodes w a) l)))
+
+  pub ranked-head : (t : ℕ) → t ≡ 0 → WalkedByRank w m a t (record { slots = replicate 16 (slot a); ranks = replicate 16 (record { 0 = 0 }); ended = at-slot a })
+  ranked-head t e =
+      let at-start : Leads w m a 0 (record { slots = replicate 16 (slot a); ranks = replicate 16 (record { 0 = 0 }); end = slot a })
+      = record { before = none-before g; end = refl } in
+      rw e (precursors-are 0 0 _ at-start refl (at-slot a) (sym (ap (endOf a (nodes w a)) (rank-there m 0 (nodes w a) (omega arith)))))

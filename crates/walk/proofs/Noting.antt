@@ -2,7 +2,7 @@
 use Prim.Native.Nat.{ℕ, zero, suc, _+_, _-_, _≤_, _<_}
 use mathlib.Core.Path.{_≡_, refl, sym, ap, _∙_}
 use mathlib.Core.List.{List, [], _∷_}
-use lib.ListN.{length, take, drop, getD, set, length-set, length-drop}
+use lib.ListN.{length, take, drop, getD, set, replicate, getD-replicate, length-set, length-drop}
 use lib.Seq.{getD-drop, getD-take, length-take-le, getD-set-same, getD-set-other}
 use native.Mathlib.Omega.{arith}
 use Rattle.model.specs.Nodes.{Node, node, N, at, slotAt}
@@ -12,7 +12,7 @@ use Rattle.model.specs.Passes.{nodes}
 use Rattle.model.proofs.Tests.{hit, miss, test}
 use Rattle.model.proofs.Walk.{last-le}
 use Rattle.model.proofs.Precursor.{last-node}
-use Rattle.arena.specs.Owners.{slotIn, rankIn, Before}
+use Rattle.arena.specs.Owners.{slotIn, rankIn, Listed, Before}
 use Rattle.arena.specs.declared.Slot.{Slot}
 use Rattle.arena.specs.declared.Rank.{Rank}
 use Rattle.walk.specs.Standing.{Standing, Sought}
@@ -72,6 +72,18 @@ module _ {w : List ℕ} {m a i h s r : ℕ} (g : Standing w m a i h s r) where
             let d = distance-first h (drop r xs) (j - r) (omega (arith, length-drop r xs, g .within)) (rw (getD-drop r xs (j - r) (node N 0 0), z) ht) in
             absurd (omega (arith, f (d .0), d .1))
       ]
+
+-- nothing lies before index 0: the head is the precursor of every level
+pub none-before : {w : List ℕ} {m a : ℕ} → Listed w m a → Before w m a 0 (replicate 16 (record { 0 = a })) (replicate 16 (record { 0 = 0 }))
+none-before {w} {m} {a} g =
+    let few : m ≤ 16 = omega (arith, g .levels, g .passes .sizes .levels-most) in
+    let head : Slot = record { 0 = a } in
+    let none : Rank = record { 0 = 0 } in
+    let rank-0 : (l : ℕ) → l < m → rankIn (replicate 16 none) l ≡ 0 = λ l k. ap (λ (r : Rank). r .0) (getD-replicate 16 l none none (omega arith)) in
+    record {
+      rank = rank-0;
+      slot = λ l k. ap (λ (s : Slot). s .0) (getD-replicate 16 l head (record { 0 = 0 }) (omega arith)) ∙ sym (ap (slotAt a (nodes w a)) (rank-0 l k));
+    }
 
 -- ---- the precursors noted from level k on ----
 pub record Noted (w : List ℕ) (m a i k : ℕ) (slots : List Slot) (ranks : List Rank) : Type 0 where
