@@ -1,7 +1,7 @@
 -- A visitor can be traversed again: after every walk it stands in its list, and a walk on from there stays. Rests on Ends.
 use Prim.Native.Nat.{ℕ, zero, suc, _-_, _≤_, _<_}
 use mathlib.Core.Path.{_≡_, refl, sym, ap, subst, _∙_}
-use mathlib.Core.Bool.{Bool, true, false, cond}
+use mathlib.Core.Bool.{Bool, true, false, false≢true, cond}
 use mathlib.Core.List.{List, [], _∷_}
 use lib.Dec.{leb}
 use lib.ListN.{length, drop, length-drop}
@@ -26,12 +26,9 @@ listed : {w : List ℕ} {m a i h s r : ℕ} → Standing w m a i h s r → Liste
 listed g = record { passes = g .owner .passes; levels = g .levels; list = g .owner .list }
 
 -- ---- by key ----
-apart : true ≡ false → ⊥
-apart e = let z : _≡_ {A = ℕ} 1 0 = ap (λ (b : Bool). cond b 1 0) e in omega arith
-
 -- the walk ends within the list
 key-there : (t : ℕ) (ys : List Node) → keyIs t ys ≡ true → 0 < length ys
-key-there t [] e = absurd (apart (sym e))
+key-there t [] e = absurd (false≢true e)
 key-there t (y ∷ ys) e = omega arith
 
 module _ {w : List ℕ} {m : ℕ} (v : OrdIndexVisitor) (g : KeyStands w m v) where
@@ -83,7 +80,7 @@ module _ (w : List ℕ) where
   module _ (v : OrdIndexVisitor) where
     missed : (b : Bool) → met w v ≡ b → b ≡ false → let u = keyEnd w v (stand (cond b (suc (E w v)) (E w v)) (T w v)) b in
         keyVisit w u ≡ keyStays u (nextOnes (drop (u .rank .0) (nodes w (v .list .0))))
-    missed true f z = absurd (apart z)
+    missed true f z = absurd (false≢true (sym z))
     missed false f z =
         let u = keyEnd w v (stand (E w v) (T w v)) false in
         let ys = nodes w (v .list .0) in
@@ -104,10 +101,10 @@ module _ (w : List ℕ) where
         Stays u = u .found ≡ false → u .over ≡ false → keyVisit w u ≡ keyStays u (nextOnes (drop (u .rank .0) (nodes w (u .list .0))))
 
         by-found : (b : Bool) → v .found ≡ b → Stays (keyVisit w v)
-        by-found true f = subst Stays (sym (found-stays w v f)) (λ a o. absurd (apart (sym f ∙ a)))
+        by-found true f = subst Stays (sym (found-stays w v f)) (λ a o. absurd (false≢true (sym a ∙ f)))
         by-found false f = subst Stays (sym (visit-is w v f)) (elim (test (T w v) (v .left)) [
           | hit e p ↦ rw e (λ a o. missed (met w v) refl a)
-          | miss e p ↦ rw e (λ a o. absurd (apart o))
+          | miss e p ↦ rw e (λ a o. absurd (false≢true (sym o)))
         ])
 
 -- ---- by rank ----
