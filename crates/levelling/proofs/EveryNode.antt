@@ -86,15 +86,15 @@ module _ {w₀ : List ℕ} {m a n i : ℕ} {w : List ℕ} {path : Path} (g : Lev
 abbrev slot : ℕ → Slot
 slot s = record { 0 = s }
 
-abbrev first-rank : Rank
-first-rank = record { 0 = 0 }
+abbrev head-rank : Rank
+head-rank = record { 0 = 0 }
 
-pub level-start : {w : List ℕ} {m a n : ℕ} {path : Path} → Listed w m a → n ≡ cellAt m w a 0 → path .slots ≡ replicate 16 (slot a) → path .ranks ≡ replicate 16 first-rank → path .end .0 ≡ a
+pub level-start : {w : List ℕ} {m a n : ℕ} {path : Path} → Listed w m a → n ≡ cellAt m w a 0 → path .slots ≡ replicate 16 (slot a) → path .ranks ≡ replicate 16 head-rank → path .end .0 ≡ a
     → Levelling w m a n 0 w path
 level-start {w} {m} {a} {n} {path} p en es er ee = record {
   listed = p;
   leads = record { before = rw (es, er) (none-before p); end = ee };
-  full = record { slots = ap length es ∙ length-replicate 16 (slot a); ranks = ap length er ∙ length-replicate 16 first-rank };
+  full = record { slots = ap length es ∙ length-replicate 16 (slot a); ranks = ap length er ∙ length-replicate 16 head-rank };
   rest = refl;
   count = count-is p en;
   size = refl;
