@@ -7,11 +7,14 @@ use lib.Dec.{ltb, leb}
 use lib.ListN.{length, set, length-set}
 use borrow.Author.Tests.{eq-eqb, ne-eqb, ltb-true}
 use native.Mathlib.Omega.{arith}
+use Rattle.digits.specs.declared.Number.{Number}
+use Rattle.digits.specs.declared.Number.the-variants.{Is, None}
+use Rattle.digits.specs.Digits.{longer}
 use Rattle.script_line.specs.declared.Reading.{Reading}
 use Rattle.script_line.specs.declared.Reading.the-variants.{Nothing, Name, Gap, Digits, Comment, Spoilt}
 use Rattle.script_line.specs.declared.Line.{Line}
 use Rattle.script_line.specs.Lines.{Within}
-use Rattle.script_line.specs.Reads.{isDigit, isLetter, turned, lettered, digited, numbered, stepped, kept, finished, Stepped, Finished}
+use Rattle.script_line.specs.Reads.{isLetter, turned, lettered, numberRead, digited, numbered, stepped, kept, finished, Stepped, Finished}
 
 count-either : (n : ℕ) (t u : Bool) (x y : Line) → x .count ≤ n → y .count ≤ n → cond t (cond u x y) y .count ≤ n
 count-either n true true x y p q = p
@@ -31,16 +34,11 @@ lettered-count line b n h =
     h
 
 digited-count : (line : Line) (b n : ℕ) → line .count ≤ n → digited line b .count ≤ n
-unfolding digited
-digited-count line b n h =
-    count-either
-    n
-    (isDigit b)
-    (leb (line .number * 10 + (b - 48)) 4294967295)
-    (record { reading = Digits; name = line .name; number = line .number * 10 + (b - 48); count = line .count })
-    (turned Spoilt line)
-    h
-    h
+digited-count line b n h = by (longer (line .number) b)
+  where
+    by : (r : Number) → numberRead line r .count ≤ n
+    by (Is k) = h
+    by None = h
 
 numbered-count : (line : Line) (n : ℕ) (then : Reading) → line .count ≤ n → numbered line n then .count ≤ n
 unfolding numbered

@@ -1,20 +1,21 @@
 -- What the bytes of a line read as (docs/CALLS.md): "Words are separated by single spaces", "Numbers are decimal, 0 to 4294967295", "A line that
--- begins with `#` is a comment." Each byte is told by its ASCII code. Rests on Lines.
-use Prim.Native.Nat.{ℕ, _+_, _-_, _*_, _%_}
+-- begins with `#` is a comment." Each byte is told by its ASCII code. Rests on Lines
+-- and digits' Digits.
+use Prim.Native.Nat.{ℕ, _+_, _*_, _%_}
 use mathlib.Core.Bool.{Bool, false, cond}
 use mathlib.Core.Path.{_≡_}
 use mathlib.Core.List.{List}
 use lib.Dec.{ltb, leb, eqb}
 use lib.ListN.{length, set}
+use Rattle.digits.specs.declared.Number.{Number}
+use Rattle.digits.specs.declared.Number.the-variants.{Is, None}
+use Rattle.digits.specs.Digits.{longer}
 use Rattle.script_line.specs.declared.Reading.{Reading}
 use Rattle.script_line.specs.declared.Reading.the-variants.{Nothing, Name, Gap, Digits, Comment, Spoilt}
 use Rattle.script_line.specs.declared.Line.{Line}
 use Rattle.script_line.specs.Lines.{Within}
 
--- A byte from `0` to `9`, and a byte from `a` to `z`.
-unfoldable pub isDigit : ℕ → Bool
-isDigit b = cond (ltb b 48) false (leb b 57)
-
+-- A byte from `a` to `z`.
 unfoldable pub isLetter : ℕ → Bool
 isLetter b = cond (ltb b 97) false (leb b 122)
 
@@ -35,13 +36,12 @@ lettered line b =
     (turned Spoilt line)
 
 -- One digit more of a number.
-unfoldable pub digited : Line → ℕ → Line
-digited line b =
-    cond (isDigit b)
-    (cond (leb (line .number * 10 + (b - 48)) 4294967295)
-    (record { reading = Digits; name = line .name; number = line .number * 10 + (b - 48); count = line .count })
-    (turned Spoilt line))
-    (turned Spoilt line)
+abbrev pub numberRead : Line → Number → Line
+numberRead line (Is n) = record { reading = Digits; name = line .name; number = n; count = line .count }
+numberRead line None = turned Spoilt line
+
+abbrev pub digited : Line → ℕ → Line
+digited line b = numberRead line (longer (line .number) b)
 
 -- A number is done: one of `room` numbers at most.
 unfoldable pub numbered : Line → ℕ → Reading → Line

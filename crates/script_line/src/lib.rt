@@ -3,8 +3,9 @@ ghost use mathlib.Core.Path.{_≡_};
 ghost use Prim.Native.Nat.{_≤_};
 ghost use lib.ListN.{length, set};
 ghost use Rattle.script_line.specs.Lines.{Within};
-ghost use Rattle.script_line.specs.Reads.{isDigit, isLetter, blank, lettered, digited, numbered, Stepped, Finished};
+ghost use Rattle.script_line.specs.Reads.{isLetter, blank, lettered, digited, numbered, Stepped, Finished};
 ghost use Rattle.script_line.specs.Reads.{turned as turnedLine};
+use digits::Number;
 
 // What separates words.
 const SPACE: u8 = b' ';
@@ -51,15 +52,6 @@ fn turned(line: Line, reading: Reading) -> Line
     }
 }
 
-fn is_digit(b: u8) -> bool
-    ensures { λ r. ⌜ r ≡ isDigit b ⌝ }
-{
-    if b < b'0' {
-        return false;
-    }
-    b <= b'9'
-}
-
 fn is_letter(b: u8) -> bool
     ensures { λ r. ⌜ r ≡ isLetter b ⌝ }
 {
@@ -91,21 +83,14 @@ fn letter(line: Line, b: u8) -> Line
 fn digit(line: Line, b: u8) -> Line
     ensures { λ r. ⌜ r ≡ digited line b ⌝ }
 {
-    if !is_digit(b) {
-        return turned(line, Reading::Spoilt);
-    }
-    let d = (b - b'0') as u32;
-    if line.number > 429496729 {
-        return turned(line, Reading::Spoilt);
-    }
-    if d > 4294967295 - line.number * 10 {
-        return turned(line, Reading::Spoilt);
-    }
-    Line {
-        reading: Reading::Digits,
-        name: line.name,
-        number: line.number * 10 + d,
-        count: line.count,
+    match digits::longer(line.number, b) {
+        Number::Is(n) => Line {
+            reading: Reading::Digits,
+            name: line.name,
+            number: n,
+            count: line.count,
+        },
+        Number::None => turned(line, Reading::Spoilt),
     }
 }
 

@@ -1,8 +1,8 @@
--- `script_line::is_digit` meets its contract, by the two tests.
+-- `digits::is_digit` meets its contract, by the two tests.
 use borrow.Author.Tests.{lt-ltb, le-ltb}
-use Rattle.script_line.specs.Reads.{isDigit}
-use Rattle.script_line.proofs.is_digit.Statement.{statement}
-use Rattle.script_line.proofs.is_digit.Tie as tie
+use Rattle.digits.specs.Digits.{isDigit}
+use Rattle.digits.proofs.is_digit.Statement.{statement}
+use Rattle.digits.proofs.is_digit.Tie as tie
 
 returns : tie.Need-returns
 unfolding isDigit

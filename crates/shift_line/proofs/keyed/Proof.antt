@@ -1,0 +1,32 @@
+-- `shift_line::keyed` meets its contract: one digit more of the key, or spoilt.
+use mathlib.Core.Path.{sym, _∙_}
+use Rattle.shift_line.proofs.StepLaws.{key-is, key-spoilt}
+use borrow.Author.Needs.{needs}
+use Rattle.shift_line.proofs.keyed.Statement.{statement}
+use Rattle.shift_line.proofs.keyed.Tie as tie
+
+longer-requires : tie.Need-longer-requires
+longer-requires c κs = search needs
+
+enum-known-n : tie.Need-enum-known-n
+enum-known-n c = search needs
+
+enum-told : tie.Need-enum-told
+enum-told c = search needs
+
+spoilt-requires : tie.Need-spoilt-requires
+spoilt-requires c κs = search needs
+
+returns : tie.Need-returns
+returns c =
+    let (start, long, n) : tie.Start × tie.After-longer × tie.After-n = search in
+    cc (key-is (start .args .line) (start .args .b) (n .n .given .0 .0) (sym (long .longer .ensures) ∙ n .n .given .1))
+
+returns-2 : tie.Need-returns-2
+returns-2 c =
+    let (start, long, none) : tie.Start × tie.After-longer × tie.After-enum-told = search in
+    cc (key-spoilt (start .args .line) (start .args .b) (cc))
+
+pub keyed-spec : {M : Type 1} → statement M
+keyed-spec =
+    tie.close (tie.spec longer-requires enum-known-n enum-told spoilt-requires returns returns-2)
