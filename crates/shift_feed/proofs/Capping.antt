@@ -88,17 +88,24 @@ ended-stable s = by (s .line .part)
     by Spoilt = end-stable s
 
 -- ---- one call after the other ----
+-- from a desk that stands for a shift, a call goes on to one that stands for the shift after it
+pub goes-on :
+    {f : Midway → Midway} {d e : Desk} {w v : List ℕ}
+    → Stable f
+    → Goes f d w v e
+    → (s : Midway)
+    → Holds w (s .shift .held)
+    → d ≡ deskOf s
+    → Holds v (f s .shift .held) × (e ≡ deskOf (f s))
+goes-on {f} {d} {e} {w} {v} stable p s k x =
+    let (b, y) = p .goes (s .shift .held) k in
+    let z : cap (f (midway (s .shift .held) d)) ≡ cap (f s) = ap (λ (t : Desk). cap (f (midway (s .shift .held) t))) x ∙ stable s in
+    (subst (Holds v) (ap (λ m. m .shift .held) z) b, y ∙ ap (λ m. record { line = m .line; skipped = m .shift .skipped }) z)
+
 pub goes-then :
     {f g : Midway → Midway} {d e r : Desk} {w v u : List ℕ}
     → Stable g
     → Goes f d w v e
     → Goes g e v u r
     → Goes (λ s. g (f s)) d w u r
-goes-then {f} {g} {d} {e} {r} {w} {v} {u} stable p q = record {
-  goes = λ h k.
-      let (a, x) = p .goes h k in
-      let (b, y) = q .goes (f (midway h d) .shift .held) a in
-      let z : cap (g (midway (f (midway h d) .shift .held) e)) ≡ cap (g (f (midway h d))) =
-      ap (λ (t : Desk). cap (g (midway (f (midway h d) .shift .held) t))) x ∙ stable (f (midway h d)) in
-      (subst (Holds u) (ap (λ m. m .shift .held) z) b, y ∙ ap (λ m. record { line = m .line; skipped = m .shift .skipped }) z);
-}
+goes-then {f} {d = d} stable p q = record { goes = λ h k. let (a, x) = p .goes h k in goes-on stable q (f (midway h d)) a x }

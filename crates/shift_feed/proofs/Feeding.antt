@@ -4,7 +4,7 @@ use Prim.Native.Nat.{ℕ, suc, _+_, _≤_, _<_}
 use mathlib.Core.Path.{_≡_, refl, sym, ap, _∙_, subst}
 use mathlib.Core.Logic.{_≢_, ⊎-elim}
 use mathlib.Core.Bool.{Bool, true, false, cond}
-use mathlib.Core.List.{List, [], _∷_, _++_}
+use mathlib.Core.List.{List, [], _∷_, _++_, append-nil, append-assoc}
 use lib.Dec.{eqb}
 use lib.ListN.{length, take, getD}
 use lib.Seq.{take-suc, take-all}
@@ -119,14 +119,6 @@ last-line : (b : ℕ) (bs : List ℕ) → NoEnd (b ∷ bs) → linesOf (b ∷ bs
 last-line b [] n = rw (n .0) refl
 last-line b (c ∷ bs) n = rw (n .0, last-line c bs (n .1)) refl
 
-++-nil : (xs : List ℕ) → xs ++ [] ≡ xs
-++-nil [] = refl
-++-nil (x ∷ xs) = ap (λ (r : List ℕ). x ∷ r) (++-nil xs)
-
-++-one : (xs : List ℕ) (b : ℕ) (ys : List ℕ) → xs ++ b ∷ ys ≡ (xs ++ b ∷ []) ++ ys
-++-one [] b ys = refl
-++-one (x ∷ xs) b ys = ap (λ (r : List ℕ). x ∷ r) (++-one xs b ys)
-
 read-more : (line : Line) (bs : List ℕ) (b : ℕ) → read line (bs ++ b ∷ []) ≡ stepped (read line bs) b
 read-more line [] b = refl
 read-more line (x ∷ xs) b = read-more (stepped line x) xs b
@@ -142,7 +134,7 @@ pub lines-taken : (s : Shift) (bs text : List ℕ) → NoEnd bs → ended (fed (
 lines-taken s [] [] n = refl
 lines-taken s (b ∷ bs) [] n =
     ap (λ m. m .shift) (ended-begun (read blank (b ∷ bs) .part) (midLine s (b ∷ bs)) (begun-line blank b bs) ∙ line-taken s (b ∷ bs))
-    ∙ ap (takenAll s) (sym (ap linesOf (++-nil (b ∷ bs)) ∙ last-line b bs n))
+    ∙ ap (takenAll s) (sym (ap linesOf (append-nil (b ∷ bs)) ∙ last-line b bs n))
 lines-taken s bs (b ∷ text) n = by (λ s2. lines-taken s2 [] text tt) (λ m. lines-taken s (bs ++ b ∷ []) text m) (same? b 10)
   where
     by :
@@ -157,7 +149,7 @@ lines-taken s bs (b ∷ text) n = by (λ s2. lines-taken s2 [] text tt) (λ m. l
     by next more (other e x) =
         ap (λ m. ended (fed m text) .shift) (rw e (ap (λ (l : Line). record { shift = s; line = l }) (sym (read-more blank bs b))))
         ∙ more (no-end-more bs b n e)
-        ∙ ap (λ xs. takenAll s (linesOf xs)) (sym (++-one bs b text))
+        ∙ ap (λ xs. takenAll s (linesOf xs)) (append-assoc bs (b ∷ []) text)
 
 -- ---- how many lines can be skipped ----
 lines-within : (text : List ℕ) → length (linesOf text) ≤ length text

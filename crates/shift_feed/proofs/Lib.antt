@@ -1,3 +1,4 @@
 pub mod Capping
 pub mod Taking
 pub mod Feeding
+pub mod Unique
