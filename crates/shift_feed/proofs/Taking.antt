@@ -1,9 +1,11 @@
 -- What the end of a line does to the words and the desk, by what the line says and what the insertion answers. Rests on Capping and model's Slices.
 use Prim.Native.Nat.{ℕ, suc, _≤_}
 use mathlib.Core.Path.{_≡_, refl, sym, ap, _∙_, subst}
-use mathlib.Core.Bool.{Bool, true, false, cond}
+use mathlib.Core.Bool.{Bool, true, false, cond, false≢true}
 use mathlib.Core.List.{List, [], _∷_}
-use Rattle.model.specs.Calls.{insertKey, refused, Promise}
+use Rattle.model.specs.Calls.{Call, Answer, insertKey, refused, Promise, CheckPromise}
+use Rattle.model.specs.Passes.{Passes}
+use Rattle.model.proofs.EveryCall.{passes-after}
 use Rattle.model.specs.Slices.{Act, Reply, answered, call, nothing, first, Held, Holds, reply, held}
 use Rattle.model.proofs.Slices.{history-is}
 use Rattle.answers.specs.declared.Refusal.{Refusal}
@@ -69,3 +71,11 @@ unread-skipped {desk} w says = record {
       let v : endLine (midway h desk) ≡ record { shift = record { held = h; skipped = suc (desk .skipped) }; line = blank } = rw says refl in
       (subst (Holds w) (ap (λ m. m .shift .held) (sym v)) holds, ap deskOf (sym v));
 }
+
+-- what the check says of the words, it still says after a call
+pub still : {c : Call} {w u : List ℕ} {r : Answer} (passes : Bool) → CheckPromise w passes → Promise c w u r → CheckPromise u passes
+still {c} true check p =
+    let passes = check .sound refl in
+    record { sound = λ e. subst Passes (sym (p .whole passes .1)) (passes-after passes c); complete = λ q. refl }
+still {w = w} {u} false check p =
+    subst (λ (x : List ℕ). CheckPromise x false) (sym (p .broken (λ q. false≢true (check .complete q)) .1)) check

@@ -2,7 +2,10 @@
 ghost use mathlib.Core.Path.{_≡_};
 ghost use Rattle.shift_feed.specs.Feeds.{empty, fed, fedByte, endLine, ended, capped, Goes};
 ghost use Prim.Native.Nat.{suc};
+ghost use Rattle.model.specs.Calls.{insertKey, Promise, CheckPromise};
+ghost use Rattle.answers.specs.Told.{plainTold};
 use answers::PlainAnswer;
+use answers::Refusal;
 use arena::Slot;
 use shift_line::Entry;
 use shift_line::Line;
@@ -32,14 +35,27 @@ fn one_more(n: u64) -> u64
     n
 }
 
+// A reading goes in at height 0, where `passes` is what the check says of the words.
+fn insert(w: &mut [u32], passes: bool, list: Slot, key: u32) -> PlainAnswer
+    requires { ⌜ CheckPromise (now w) passes ⌝ }
+    ensures { λ r. ⌜ Promise (insertKey (list .0) key 0) (now (w .entry)) (now (w .exit)) (plainTold r) ⌝ }
+{
+    if passes {
+        return checked_changing::insert(w, list, key, 0);
+    }
+    PlainAnswer::Refused(Refusal::Broken)
+}
+
 // The line has ended.
-fn take(w: &mut [u32], desk: Desk) -> Desk
+fn take(w: &mut [u32], passes: bool, desk: Desk) -> Desk
+    requires { ⌜ CheckPromise (now w) passes ⌝ }
     ensures { λ r. ⌜ Goes endLine desk (now (w .entry)) (now (w .exit)) r ⌝ }
+    ensures { λ _. ⌜ CheckPromise (now (w .exit)) passes ⌝ }
 {
     let skipped = desk.skipped;
     let line = Line::new();
     match shift_line::parse(desk.line) {
-        Entry::Reading(list, key) => match ska_changing::insert(w, Slot(list), key, 0) {
+        Entry::Reading(list, key) => match insert(w, passes, Slot(list), key) {
             PlainAnswer::Accepted => Desk { line, skipped },
             PlainAnswer::Refused(_) => Desk {
                 line,
@@ -53,11 +69,13 @@ fn take(w: &mut [u32], desk: Desk) -> Desk
     }
 }
 
-fn byte(w: &mut [u32], desk: Desk, b: u8) -> Desk
+fn byte(w: &mut [u32], passes: bool, desk: Desk, b: u8) -> Desk
+    requires { ⌜ CheckPromise (now w) passes ⌝ }
     ensures { λ r. ⌜ Goes (λ s. fedByte s b) desk (now (w .entry)) (now (w .exit)) r ⌝ }
+    ensures { λ _. ⌜ CheckPromise (now (w .exit)) passes ⌝ }
 {
     if b == b'\n' {
-        return take(w, desk);
+        return take(w, passes, desk);
     }
     let line = shift_line::step(desk.line, b);
     Desk {
@@ -66,14 +84,15 @@ fn byte(w: &mut [u32], desk: Desk, b: u8) -> Desk
     }
 }
 
-// The next piece of the text, of any length.
+// The next piece of the text, of any length. The arena is checked once for all its lines.
 pub fn feed(w: &mut [u32], desk: Desk, bytes: &[u8]) -> Desk
     ensures { λ r. ⌜ Goes (λ s. fed s (now (bytes .entry))) desk (now (w .entry)) (now (w .exit)) r ⌝ }
 {
+    let passes = arena_check::check(w);
     let mut d = desk;
     let mut i: usize = 0;
     while i < bytes.len() {
-        d = byte(w, d, bytes[i]);
+        d = byte(w, passes, d, bytes[i]);
         i += 1;
     }
     d
@@ -87,6 +106,9 @@ pub fn finish(w: &mut [u32], desk: Desk) -> Desk
     let part = line.part;
     match part {
         Part::Nothing => desk,
-        _ => take(w, desk),
+        _ => {
+            let passes = arena_check::check(w);
+            take(w, passes, desk)
+        }
     }
 }

@@ -14,7 +14,7 @@ same-length c = search needs
 returns : tie.Need-returns
 returns c =
     let (test, taken) : tie.Then1 × tie.After-take = search in
-    newline-fed _ (test .if1 .taken) (taken .take .ensures)
+    (newline-fed _ (test .if1 .taken) (taken .take .ensures .0), taken .take .ensures .1)
 
 step-requires : tie.Need-step-requires
 step-requires c κs = search needs
@@ -22,7 +22,7 @@ step-requires c κs = search needs
 returns-2 : tie.Need-returns-2
 returns-2 c =
     let (start, test) : tie.Start × tie.Else1 = search in
-    rw (c .step .ensures) (other-fed (start .args .b) _ (test .if1 .left) (omega arith))
+    (rw (c .step .ensures) (other-fed (start .args .b) _ (test .if1 .left) (omega arith)), start .pre)
 
 pub byte-spec : {M : Type 1} → statement M
 byte-spec = tie.close (tie.spec take-requires same-length returns step-requires returns-2)

@@ -8,6 +8,9 @@ use Rattle.shift_feed.proofs.finish.Tie as tie
 enum-told : tie.Need-enum-told
 enum-told c = search needs
 
+check-requires : tie.Need-check-requires
+check-requires c κs = search needs
+
 take-requires : tie.Need-take-requires
 take-requires c κs = search needs
 
@@ -22,7 +25,7 @@ same-length c = search needs
 returns-2 : tie.Need-returns-2
 returns-2 c =
     let (other, taken) : tie.At-match-keys2 × tie.After-take = search in
-    ended-taken (other .match .keys2) (taken .take .ensures)
+    ended-taken (other .match .keys2) (taken .take .ensures .0)
 
 pub finish-spec : {M : Type 1} → statement M
-finish-spec = tie.close (tie.spec enum-told take-requires returns same-length returns-2)
+finish-spec = tie.close (tie.spec enum-told check-requires take-requires returns same-length returns-2)

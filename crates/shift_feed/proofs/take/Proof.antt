@@ -2,7 +2,7 @@
 use Prim.Native.Nat.{_≤_}
 use mathlib.Core.Path.{sym, _∙_}
 use native.Mathlib.Omega.{arith}
-use Rattle.shift_feed.proofs.Taking.{reading-taken, reading-refused, unread-skipped}
+use Rattle.shift_feed.proofs.Taking.{reading-taken, reading-refused, unread-skipped, still}
 use borrow.Author.Needs.{needs}
 use Rattle.shift_feed.proofs.take.Statement.{statement}
 use Rattle.shift_feed.proofs.take.Tie as tie
@@ -42,23 +42,27 @@ same-length c = search needs
 
 returns : tie.Need-returns
 returns c =
-    let (start, made, said, list, stored, told) : tie.Start × tie.After-new × tie.After-parse × tie.After-list × tie.After-insert × tie.After-enum-told = search in
-    rw (made .new .ensures)
-    (reading-taken (sym (said .parse .ensures) ∙ list .list .given .1) _ (told .enum-told .given .1) (stored .insert .ensures) (within start))
+    let (start, made, said, list, stored, told) : tie.Start × tie.After-new × tie.After-parse × tie.After-list × tie.After-insert × tie.After-enum-told = search in (
+      rw (made .new .ensures)
+          (reading-taken (sym (said .parse .ensures) ∙ list .list .given .1) _ (told .enum-told .given .1) (stored .insert .ensures) (within start)),
+      still _ (start .pre) (stored .insert .ensures),
+    )
 
 same-length-2 : tie.Need-same-length-2
 same-length-2 c = search needs
 
 returns-2 : tie.Need-returns-2
 returns-2 c =
-    let (made, said, list, stored, told) : tie.After-new × tie.After-parse × tie.After-list × tie.After-insert × tie.After-enum-told2 = search in
-    rw (made .new .ensures, c .one-more .ensures)
-    (reading-refused (sym (said .parse .ensures) ∙ list .list .given .1) _ _ (told .enum-told2 .given .1) (stored .insert .ensures))
+    let (start, made, said, list, stored, told) : tie.Start × tie.After-new × tie.After-parse × tie.After-list × tie.After-insert × tie.After-enum-told2 = search in (
+      rw (made .new .ensures, c .one-more .ensures)
+          (reading-refused (sym (said .parse .ensures) ∙ list .list .given .1) _ _ (told .enum-told2 .given .1) (stored .insert .ensures)),
+      still _ (start .pre) (stored .insert .ensures),
+    )
 
 returns-3 : tie.Need-returns-3
 returns-3 c =
-    let (made, said, told) : tie.After-new × tie.After-parse × tie.After-enum-told3 = search in
-    rw (made .new .ensures, c .one-more2 .ensures) (unread-skipped _ (sym (said .parse .ensures) ∙ told .enum-told3 .given .1))
+    let (start, made, said, told) : tie.Start × tie.After-new × tie.After-parse × tie.After-enum-told3 = search in
+    (rw (made .new .ensures, c .one-more2 .ensures) (unread-skipped _ (sym (said .parse .ensures) ∙ told .enum-told3 .given .1)), start .pre)
 
 pub take-spec : {M : Type 1} → statement M
 take-spec =
