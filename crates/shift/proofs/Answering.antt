@@ -30,5 +30,10 @@ module _ {w : List ℕ} {skipped : ℕ} {before : List ℕ} where
       record {
         short = λ h. absurd (omega arith);
         broken = λ n. absurd (n p);
-        whole = λ h q. (counts, sym (take-append-drop end after) ∙ ap (λ (x : List ℕ). x ++ drop end after) (all .front) ∙ ap (λ (x : List ℕ). text ++ x) (all .rest ∙ ap (λ n. drop n before) counts));
+        whole = λ h q. (
+          counts,
+          sym (take-append-drop end after)
+              ∙ ap (λ (x : List ℕ). x ++ drop end after) (all .front)
+              ∙ ap (λ (x : List ℕ). text ++ x) (all .rest ∙ ap (λ n. drop n before) counts),
+        );
       }

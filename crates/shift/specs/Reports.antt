@@ -73,7 +73,7 @@ pub record Run (pieces : List (List ℕ)) (words : List ℕ) (desk : Desk) : Typ
   pub feeds : Fed pieces empty second last third
   pub finishes : Goes ended last third words desk
 
--- "feeding the bytes of a text in any pieces and then finishing gives exactly the report of the whole text", for texts of fewer than 2^64 bytes.
+-- Fed in any pieces and finished, a text of fewer than 2^64 bytes gives its report: as numbers, and as bytes.
 pub record Gives (r : Report) (words : List ℕ) (desk : Desk) : Type 0 where
   pub passes : Passes words
   pub lists : length (r .figures) ≡ 2
@@ -83,7 +83,11 @@ pub record Gives (r : Report) (words : List ℕ) (desk : Desk) : Type 0 where
       → (n ≡ length (textOf r)) × (after ≡ textOf r ++ drop (length (textOf r)) before)
 
 abbrev pub Reporting : Type 0
-Reporting = (pieces : List (List ℕ)) (words : List ℕ) (desk : Desk) → length (joined pieces) < 2 ^ 64 → Run pieces words desk → Gives (reportOf (joined pieces)) words desk
+Reporting =
+    (pieces : List (List ℕ)) (words : List ℕ) (desk : Desk)
+    → length (joined pieces) < 2 ^ 64
+    → Run pieces words desk
+    → Gives (reportOf (joined pieces)) words desk
 
 -- ---- request K1 in one record ----
 -- "The input lines `0 10`, `0 20`, `0 20`, `0 30`, `2 5` give the lines `0 4 10 30 10 20 20`, `1 0`, `skipped 1`."

@@ -96,7 +96,9 @@ ended-taken {d} {r} {w} {u} o p = record {
 }
   where
     not-nothing : (q : Part) → OneOf (1 ∷ 2 ∷ 3 ∷ 4 ∷ []) (tagOf the-type q) → q ≢ Nothing
-    not-nothing q o e = ⊎-elim (λ t. differs t) (λ o1. ⊎-elim (λ t. differs t) (λ o2. ⊎-elim (λ t. differs t) (λ t. differs t) o2) o1) (subst (λ (z : Part). OneOf (1 ∷ 2 ∷ 3 ∷ 4 ∷ []) (tagOf the-type z)) e o)
+    not-nothing q o e =
+        ⊎-elim (λ t. differs t) (λ x. ⊎-elim (λ t. differs t) (λ y. ⊎-elim (λ t. differs t) (λ t. differs t) y) x)
+        (subst (λ (z : Part). OneOf (1 ∷ 2 ∷ 3 ∷ 4 ∷ []) (tagOf the-type z)) e o)
       where
         differs : {n : ℕ} → 0 ≡ suc n → ⊥
         differs t = omega (arith, t)

@@ -25,16 +25,13 @@ accepted (verdict b) = b
 accepted (answered r) = eqb (r .number) 0
 
 -- "A line that doesn't parse, a list number at or above L, or a reading with no room is counted in a last line, always written, and otherwise skipped."
-abbrev pub skip : Shift → Shift
-skip s = record { held = s .held; skipped = suc (s .skipped) }
-
 abbrev pub taken : Shift → Entry → Shift
 taken s (Reading l k) =
     record {
       held = held (s .held) (inserting l k);
       skipped = cond (accepted (reply (s .held) (inserting l k))) (s .skipped) (suc (s .skipped));
     }
-taken s Unread = skip s
+taken s Unread = record { held = s .held; skipped = suc (s .skipped) }
 
 abbrev pub takenAll : Shift → List (List ℕ) → Shift
 takenAll s [] = s

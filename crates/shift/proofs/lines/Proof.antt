@@ -46,8 +46,15 @@ loop-less c = search needs
 
 loop-again : tie.Need-loop-again Inv-loop μ-loop
 loop-again c =
-    let (start, loop, turn, figures, line) : Start × Loop × Turn × tie.After-of Inv-loop μ-loop × tie.After-line Inv-loop μ-loop = search in
-    (one-lined (omega (arith, lists-are (start .args .w .now))) (loop .loop .inv .0) (rw (figures .of .ensures) at (line .line .ensures .0)) (line .line .ensures .1), search needs, cc)
+    let (start, loop, turn, figures, line) : Start × Loop × Turn × tie.After-of Inv-loop μ-loop × tie.After-line Inv-loop μ-loop = search in (
+      one-lined
+          (omega (arith, lists-are (start .args .w .now)))
+          (loop .loop .inv .0)
+          (rw (figures .of .ensures) at (line .line .ensures .0))
+          (line .line .ensures .1),
+      search needs,
+      cc,
+    )
 
 same-length : tie.Need-same-length Inv-loop μ-loop
 same-length c = search needs

@@ -42,7 +42,8 @@ same-length c = search needs
 
 returns : tie.Need-returns
 returns c =
-    let (start, made, said, list, stored, told) : tie.Start × tie.After-new × tie.After-parse × tie.After-list × tie.After-insert × tie.After-enum-told = search in (
+    let (start, made, said) : tie.Start × tie.After-new × tie.After-parse = search in
+    let (list, stored, told) : tie.After-list × tie.After-insert × tie.After-enum-told = search in (
       rw (made .new .ensures)
           (reading-taken (sym (said .parse .ensures) ∙ list .list .given .1) _ (told .enum-told .given .1) (stored .insert .ensures) (within start)),
       still _ (start .pre) (stored .insert .ensures),
@@ -53,7 +54,8 @@ same-length-2 c = search needs
 
 returns-2 : tie.Need-returns-2
 returns-2 c =
-    let (start, made, said, list, stored, told) : tie.Start × tie.After-new × tie.After-parse × tie.After-list × tie.After-insert × tie.After-enum-told2 = search in (
+    let (start, made, said) : tie.Start × tie.After-new × tie.After-parse = search in
+    let (list, stored, told) : tie.After-list × tie.After-insert × tie.After-enum-told2 = search in (
       rw (made .new .ensures, c .one-more .ensures)
           (reading-refused (sym (said .parse .ensures) ∙ list .list .given .1) _ _ (told .enum-told2 .given .1) (stored .insert .ensures)),
       still _ (start .pre) (stored .insert .ensures),
