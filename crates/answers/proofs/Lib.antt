@@ -1,3 +1,4 @@
 pub mod Rows
 pub mod Keeping
 pub mod Promises
+pub mod Numbers

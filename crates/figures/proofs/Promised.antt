@@ -17,7 +17,7 @@ use Rattle.answers.specs.declared.Refusal.the-variants.{Broken, NoList}
 use Rattle.figures.specs.Figured.{figuresOf, figuresIn, FiguresPromise}
 use Rattle.figures.specs.declared.FiguresAnswer.{FiguresAnswer}
 use Rattle.figures.specs.declared.FiguresAnswer.the-variants.{Are, Refused}
-use Rattle.figures.proofs.Numbers.{same-number}
+use Rattle.answers.proofs.Numbers.{same-number}
 
 -- a list without keys has zeros
 pub none : (xs : List Node) → length xs ≡ 0 → record { count = 0; smallest = 0; largest = 0; lower = 0; middle = 0; upper = 0 } ≡ figuresOf xs

@@ -12,7 +12,7 @@ use Rattle.answers.specs.Told.{numberOf}
 use Rattle.figures.specs.Figured.{FiguresPromise}
 use Rattle.figures.specs.declared.FiguresAnswer.{FiguresAnswer}
 use Rattle.figures.specs.declared.FiguresAnswer.the-variants.{Are, Refused}
-use Rattle.figures.proofs.Numbers.{same-number}
+use Rattle.answers.proofs.Numbers.{same-number}
 
 -- an answer as numbers, by which two are told apart
 abbrev told : FiguresAnswer → List ℕ

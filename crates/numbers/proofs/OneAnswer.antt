@@ -1,5 +1,5 @@
 -- What a call returns is known by the numbers that it tells, so that each promise allows one returned value and one content of the words: for every
--- answer type, refusals included. Rests on model's Unique.
+-- answer type, refusals included. Rests on model's Unique and answers' Numbers.
 use Prim.Native.Nat.{ℕ}
 use mathlib.Core.Path.{_≡_, refl, sym, ap, _∙_}
 use mathlib.Core.Bool.{cond}
@@ -14,7 +14,7 @@ use Rattle.setup.specs.Bare.{numberOf as setupNumber}
 use Rattle.setup.specs.declared.Setup.{Setup}
 use Rattle.setup.specs.declared.Setup.the-variants.{Done, Wrong}
 use Rattle.answers.specs.Told.{searchTold, keyTold, plainTold}
-use Rattle.answers.specs.declared.Refusal.{Refusal}
+use Rattle.answers.proofs.Numbers.{refusalOf}
 use Rattle.answers.specs.declared.Refusal.the-variants.{Broken, NoList, SameList, TooHigh, Full, NotEmpty, PastEnd, NoKey}
 use Rattle.answers.specs.declared.SearchAnswer.{SearchAnswer}
 use Rattle.answers.specs.declared.SearchAnswer.the-variants.{Found, Missing, Beyond, Refused}
@@ -24,11 +24,6 @@ use Rattle.answers.specs.declared.PlainAnswer.{PlainAnswer}
 use Rattle.answers.specs.declared.PlainAnswer.the-variants.{Accepted, Refused as RefusedPlain}
 
 -- ---- the returned value back from its numbers ----
-abbrev refusalOf : ℕ → Refusal
-refusalOf n =
-    cond (eqb n 1) Broken (cond (eqb n 3) NoList (cond (eqb n 4) SameList (cond (eqb n 5) TooHigh
-    (cond (eqb n 6) Full (cond (eqb n 7) NotEmpty (cond (eqb n 8) PastEnd NoKey))))))
-
 abbrev searchOf : Answer → SearchAnswer
 searchOf x =
     cond (eqb (x .number) 0)
