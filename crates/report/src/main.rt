@@ -1,6 +1,16 @@
 // Reads a shift's text, lines of `list key`, from the file that its argument names or from standard input, and writes the report once all is read.
 // A text that cannot be read to its end, or a report that cannot be written, is told by one line on standard error.
+ghost use Prim.Native.Nat.{_≤_};
+ghost use mathlib.Core.Path.{_≡_};
+ghost use lib.ListN.{length, take};
+ghost use Rattle.io.specs.Counts.{Counts};
+ghost use Rattle.shift_feed.specs.Feeds.{empty};
+ghost use Rattle.report.specs.declared.Input.the-variants.{Open, Ended};
+ghost use Rattle.report.specs.Texts.{Onward, Begun, Whole};
 use shift::Desk;
+
+// A proved loop has to end, and nothing says that the input does: reads and bytes count up to this number, which no run reaches.
+const MOST: u64 = u64::MAX - 65537;
 
 // What a read found: a piece of the text, its end, or a fault, which has been told.
 pub enum Input {
@@ -9,10 +19,11 @@ pub enum Input {
     Failed,
 }
 
-// What is kept between two pieces.
+// What was read: the desk behind it, what the last read found, and how many reads and bytes it took.
 pub struct Taken {
     pub desk: Desk,
     pub input: Input,
+    pub spent: u64,
 }
 
 // Tells what failed, and why.
@@ -31,17 +42,24 @@ fn fault(name: &[u8]) -> Input {
 }
 
 // Takes what has arrived.
-fn piece(words: &mut [u32], desk: Desk, fd: i32, name: &[u8]) -> Taken {
+fn piece(words: &mut [u32], desk: Desk, fd: i32, name: &[u8]) -> Taken
+    ensures { λ r. ⌜ Onward (r .spent) desk (now (words .entry)) (r .desk) (now (words .exit)) × (1 ≤ r .spent) × (r .spent ≤ 65537) ⌝ }
+{
     let mut buffer = io::large_buffer();
     let got = libc::read(fd, &mut buffer);
     if got < 0 {
         let input = fault(name);
-        return Taken { desk, input };
+        return Taken {
+            desk,
+            input,
+            spent: 1,
+        };
     }
     if got == 0 {
         return Taken {
             desk,
             input: Input::Ended,
+            spent: 1,
         };
     }
     let n = io::count(got, &buffer);
@@ -49,37 +67,59 @@ fn piece(words: &mut [u32], desk: Desk, fd: i32, name: &[u8]) -> Taken {
     Taken {
         desk: fed,
         input: Input::Open,
+        spent: n as u64 + 1,
     }
 }
 
-// A proved loop has to end, and nothing says that the input does: the turns count up to a number that no run reaches.
-fn pieces(words: &mut [u32], fd: i32, name: &[u8]) -> Taken {
+// Takes piece after piece, to the end of the text or a fault.
+fn pieces(words: &mut [u32], fd: i32, name: &[u8]) -> Taken
+    ensures { λ r. ⌜ Onward (r .spent) empty (now (words .entry)) (r .desk) (now (words .exit)) ⌝ }
+    ensures { λ r. ⌜ (r .input ≡ Open → 18446744073709486078 ≤ r .spent) ⌝ }
+{
     let mut desk = Desk::new();
-    let mut turns: u64 = 0;
-    while turns < u64::MAX {
+    let mut spent: u64 = 0;
+    while spent < MOST {
         let taken = piece(words, desk, fd, name);
+        desk = taken.desk;
+        spent += taken.spent;
         let input = taken.input;
         match input {
             Input::Open => {}
-            _ => return taken,
+            _ => return Taken { desk, input, spent },
         }
-        desk = taken.desk;
-        turns += 1;
     }
     Taken {
         desk,
         input: Input::Open,
+        spent,
     }
 }
 
-// The end of the text: the report, in one piece.
-fn print(words: &mut [u32], desk: Desk) {
+// The end of the text: the report at the front of the slice, and its length.
+fn text(words: &mut [u32], desk: Desk, out: &mut [u8]) -> usize
+    requires { ⌜ Begun desk (now words) × (1261 ≤ length (now out)) ⌝ }
+    ensures { λ r. ⌜ Counts r (now (out .exit)) × Whole (take r (now (out .exit))) ⌝ }
+{
     let last = shift::finish(words, desk);
-    let mut out = [0u8; shift::ROOM];
-    let n = shift::answer(words, last.skipped, &mut out);
-    if !io::write_all(libc::STDOUT_FILENO, &out[..n]) {
+    shift::answer(words, last.skipped, out)
+}
+
+// Standard output gets whole reports alone.
+fn write(report: &[u8])
+    requires { ⌜ Whole (now report) ⌝ }
+{
+    if !io::write_all(libc::STDOUT_FILENO, report) {
         fail(b"standard output");
     }
+}
+
+// A text that was read to its end is reported.
+fn print(words: &mut [u32], taken: Taken)
+    requires { ⌜ Begun (taken .desk) (now words) × (taken .input ≡ Ended) ⌝ }
+{
+    let mut out = [0u8; shift::ROOM];
+    let n = text(words, taken.desk, &mut out);
+    write(&out[..n]);
 }
 
 // Reports on what the descriptor gives. A fault is told by the name.
@@ -89,7 +129,7 @@ fn report(fd: i32, name: &[u8]) {
     let taken = pieces(&mut words, fd, name);
     let input = taken.input;
     match input {
-        Input::Ended => print(&mut words, taken.desk),
+        Input::Ended => print(&mut words, taken),
         _ => {}
     }
 }
