@@ -1,8 +1,8 @@
 -- A report's line is put piece by piece: bytes put one behind the other are put as one, and so are numbers behind spaces. Rests on Texts.
 use Prim.Native.Nat.{ℕ, _+_, _≤_, _<_}
 use mathlib.Core.List.{List, [], _∷_, _++_, append-assoc, append-nil}
-use mathlib.Core.Path.{_≡_, refl, sym, ap, _∙_}
-use lib.ListN.{length, take, drop, set, getD, length-append, length-take}
+use mathlib.Core.Path.{_≡_, refl, sym, _∙_}
+use lib.ListN.{length, take, drop, set, getD, length-append}
 use lib.Seq.{take-suc-set, drop-set-lt, drop-drop, take-length, take-suc, paste, take-paste, drop-paste}
 use native.Mathlib.Nat.{le-refl}
 use native.Mathlib.Numerals.{add-one}
@@ -37,10 +37,6 @@ both {at} {m} {n} {xs} {ys} {a} {b} {c} p q =
   where
     behind : drop n b ≡ drop n a
     behind = rw (q .ends, ← drop-drop (length ys) m b, ← drop-drop (length ys) m a, p .rest)
-
--- What is put ends within the slice.
-pub within : {at end : ℕ} {xs a b : List ℕ} → at ≤ length a → Put at xs a b end → end ≤ length b
-within {at} {end} {xs} {a} {b} room p = omega (arith, simp (length-append, length-take) at (ap length (p .front)))
 
 spaced-append : (xs ys : List ℕ) → spaced (xs ++ ys) ≡ spaced xs ++ spaced ys
 spaced-append [] ys = refl

@@ -54,7 +54,7 @@ taken-capped s (Reading l k) = ap (λ n. record { held = held (s .held) (inserti
     by true = capped-again (s .skipped)
     by false = capped-suc (s .skipped)
 
-pub end-stable : Stable endLine
+end-stable : Stable endLine
 end-stable s = ap (λ (x : Shift). record { shift = x; line = blank }) (taken-capped (s .shift) (entryOf (s .line)))
 
 step-stable : (b : ℕ) → Stable (λ s. record { shift = s .shift; line = stepped (s .line) b })
