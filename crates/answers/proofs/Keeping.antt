@@ -15,18 +15,7 @@ use Rattle.answers.specs.Kept.{Kept}
 use Rattle.answers.specs.declared.lists.Named.{Named}
 use Rattle.answers.specs.declared.lists.Named.the-variants.{Refused}
 use Rattle.answers.specs.declared.Refusal.{Refusal}
-use Rattle.answers.specs.declared.Refusal.the-variants.{Broken, NoList, SameList, TooHigh, Full, NotEmpty, PastEnd, NoKey}
-
--- a refusal's number is neither 0, which accepts, nor 10, which is the search's own
-below-ten : (r : Refusal) → (0 < numberOf r) × (numberOf r < 10)
-below-ten Broken = omega arith
-below-ten NoList = omega arith
-below-ten SameList = omega arith
-below-ten TooHigh = omega arith
-below-ten Full = omega arith
-below-ten NotEmpty = omega arith
-below-ten PastEnd = omega arith
-below-ten NoKey = omega arith
+use Rattle.answers.proofs.Numbers.{below-ten}
 
 same-either : {A : Type 0} (b : Bool) (x : A) → cond b x x ≡ x
 same-either true x = refl

@@ -5,15 +5,11 @@ use mathlib.Core.List.{List, [], _∷_}
 use lib.ListN.{length}
 use native.Mathlib.Nat.{le-refl, not-suc-le-zero}
 use native.Mathlib.Omega.{arith}
-use Rattle.model.specs.Nodes.{Node, keyAt, Above, Sorted}
+use Rattle.model.specs.Nodes.{Node, keyAt, Sorted}
 use Rattle.model.specs.Passes.{decode, nodes, Passes}
 use Rattle.model.proofs.Keeps.{sorted-list}
+use Rattle.model.proofs.Precursor.{above-at}
 use Rattle.figures.specs.Figured.{figuresOf}
-
-above-at : (t : ℕ) (xs : List Node) → Above t xs → (i : ℕ) → i < length xs → t ≤ keyAt xs i
-above-at t [] p i l = absurd (not-suc-le-zero l)
-above-at t (y ∷ ys) p zero l = p .0
-above-at t (y ∷ ys) p (suc i) l = above-at t ys (p .1) i (omega arith)
 
 -- keys never fall from an index to a later one
 rises : (xs : List Node) → Sorted xs → (i j : ℕ) → i ≤ j → j < length xs → keyAt xs i ≤ keyAt xs j

@@ -73,7 +73,7 @@ below-at t [] p i l = absurd (not-suc-le-zero l)
 below-at t (y ∷ ys) p zero l = p .0
 below-at t (y ∷ ys) p (suc i) l = below-at t ys (p .1) i (omega arith)
 
-above-at : (t : ℕ) (bb : List Node) → Above t bb → (i : ℕ) → i < length bb → t ≤ at bb i .key
+pub above-at : (t : ℕ) (bb : List Node) → Above t bb → (i : ℕ) → i < length bb → t ≤ at bb i .key
 above-at t [] p i l = absurd (not-suc-le-zero l)
 above-at t (y ∷ ys) p zero l = p .0
 above-at t (y ∷ ys) p (suc i) l = above-at t ys (p .1) i (omega arith)

@@ -3,16 +3,18 @@ use Prim.Native.Nat.{ℕ, suc, _≤_}
 use mathlib.Core.Path.{_≡_, refl, sym, ap, _∙_, subst}
 use mathlib.Core.Bool.{Bool, true, false, cond, false≢true}
 use mathlib.Core.List.{List, [], _∷_}
+use borrow.Author.Tests.{ne-eqb}
+use native.Mathlib.Omega.{arith}
 use Rattle.model.specs.Calls.{Call, Answer, insertKey, refused, Promise, CheckPromise}
 use Rattle.model.specs.Passes.{Passes}
 use Rattle.model.proofs.EveryCall.{passes-after}
 use Rattle.model.specs.Slices.{Act, Reply, answered, call, nothing, first, Held, Holds, reply, held}
 use Rattle.model.proofs.Slices.{history-is}
 use Rattle.answers.specs.declared.Refusal.{Refusal}
-use Rattle.answers.specs.declared.Refusal.the-variants.{Broken, NoList, SameList, TooHigh, Full, NotEmpty, PastEnd, NoKey}
 use Rattle.answers.specs.declared.PlainAnswer.{PlainAnswer}
 use Rattle.answers.specs.declared.PlainAnswer.the-variants.{Accepted, Refused}
 use Rattle.answers.specs.Told.{numberOf, plainTold}
+use Rattle.answers.proofs.Numbers.{below-ten}
 use Rattle.shift_line.specs.declared.Entry.the-variants.{Reading, Unread}
 use Rattle.shift_line.specs.Reads.{blank, entryOf}
 use Rattle.shift_feed.specs.declared.Desk.{Desk}
@@ -53,17 +55,7 @@ module _ {l k : ℕ} {desk : Desk} {w u : List ℕ} (says : entryOf (desk .line)
       → a ≡ Refused r
       → Promise (insertKey l k 0) w u (plainTold a)
       → Goes endLine desk w u (record { line = blank; skipped = capped (suc (desk .skipped)) })
-  reading-refused a r e p = told false (not-zero r) (rw e at p)
-    where
-      not-zero : (r : Refusal) → accepted (answered (refused (numberOf r))) ≡ false
-      not-zero Broken = refl
-      not-zero NoList = refl
-      not-zero SameList = refl
-      not-zero TooHigh = refl
-      not-zero Full = refl
-      not-zero NotEmpty = refl
-      not-zero PastEnd = refl
-      not-zero NoKey = refl
+  reading-refused a r e p = told false (ne-eqb (numberOf r) 0 (λ z. omega (arith, below-ten r))) (rw e at p)
 
 pub unread-skipped : {desk : Desk} (w : List ℕ) → entryOf (desk .line) ≡ Unread → Goes endLine desk w w (record { line = blank; skipped = capped (suc (desk .skipped)) })
 unread-skipped {desk} w says = record {

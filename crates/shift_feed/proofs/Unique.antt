@@ -34,11 +34,11 @@ part-back KeyDigits = refl
 part-back Spoilt = refl
 
 abbrev numbers : Desk → List ℕ
-numbers d = partNumber (d .line .part) ∷ d .line .list ∷ d .line .key ∷ d .skipped ∷ []
+numbers d = partNumber (d .line .part) ∷ d .line .list ∷ d .line .number ∷ d .skipped ∷ []
 
 abbrev deskFrom : List ℕ → Desk
 deskFrom ns = record {
-  line = record { part = partOf (getD ns 0 0); list = getD ns 1 0; key = getD ns 2 0 };
+  line = record { part = partOf (getD ns 0 0); list = getD ns 1 0; number = getD ns 2 0 };
   skipped = getD ns 3 0;
 }
 
@@ -46,7 +46,7 @@ same-desk : {r s : Desk} → numbers r ≡ numbers s → r ≡ s
 same-desk {r} {s} e = sym (back r) ∙ ap deskFrom e ∙ back s
   where
     back : (d : Desk) → deskFrom (numbers d) ≡ d
-    back d = ap (λ p. record { line = record { part = p; list = d .line .list; key = d .line .key }; skipped = d .skipped }) (part-back (d .line .part))
+    back d = ap (λ p. record { line = record { part = p; list = d .line .list; number = d .line .number }; skipped = d .skipped }) (part-back (d .line .part))
 
 -- ---- one answer ----
 module _ {f : Midway → Midway} {d r s : Desk} {w u v : List ℕ} (p : Goes f d w u r) (q : Goes f d w v s) where

@@ -11,7 +11,7 @@ use Rattle.digits.specs.Digits.{longer}
 use Rattle.shift_line.specs.declared.Part.{Part}
 use Rattle.shift_line.specs.declared.Part.the-variants.{Nothing, ListDigits, Space, KeyDigits, Spoilt}
 use Rattle.shift_line.specs.declared.Line.{Line}
-use Rattle.shift_line.specs.Reads.{listNumber, keyNumber, listed, steppedIn, stepped, read}
+use Rattle.shift_line.specs.Reads.{numbered, digited, steppedIn, stepped, read}
 
 abbrev isBegun : Part → Bool
 isBegun Nothing = false
@@ -20,27 +20,29 @@ isBegun Space = true
 isBegun KeyDigits = true
 isBegun Spoilt = true
 
-list-begun : (n : Number) → isBegun (listNumber n .part) ≡ true
-list-begun (Is n) = refl
-list-begun None = refl
-
-key-begun : (l : ℕ) (n : Number) → isBegun (keyNumber l n .part) ≡ true
-key-begun l (Is n) = refl
-key-begun l None = refl
+numbered-begun : (part : Part) (list : ℕ) (n : Number) → isBegun part ≡ true → isBegun (numbered part list n .part) ≡ true
+numbered-begun part list (Is n) e = e
+numbered-begun part list None e = refl
 
 step-begun : (line : Line) (b : ℕ) → isBegun (stepped line b .part) ≡ true
 unfolding stepped
 step-begun line b = by (line .part)
   where
-    spaced : (s : Bool) → isBegun (cond s (record { part = Space; list = line .list; key = 0 }) (listed line b) .part) ≡ true
+    in-list : isBegun (digited ListDigits line b .part) ≡ true
+    in-list = numbered-begun ListDigits (line .list) (longer (line .number) b) refl
+
+    in-key : isBegun (digited KeyDigits line b .part) ≡ true
+    in-key = numbered-begun KeyDigits (line .list) (longer (line .number) b) refl
+
+    spaced : (s : Bool) → isBegun (cond s (record { part = Space; list = line .number; number = 0 }) (digited ListDigits line b) .part) ≡ true
     spaced true = refl
-    spaced false = list-begun (longer (line .list) b)
+    spaced false = in-list
 
     by : (p : Part) → isBegun (steppedIn p line b .part) ≡ true
-    by Nothing = list-begun (longer (line .list) b)
+    by Nothing = in-list
     by ListDigits = spaced (eqb b 32)
-    by Space = key-begun (line .list) (longer (line .key) b)
-    by KeyDigits = key-begun (line .list) (longer (line .key) b)
+    by Space = in-key
+    by KeyDigits = in-key
     by Spoilt = refl
 
 read-begun : (line : Line) (b : ℕ) (bs : List ℕ) → isBegun (read line (b ∷ bs) .part) ≡ true

@@ -14,7 +14,7 @@ use Rattle.shift_line.specs.declared.Line.{Line}
 use Rattle.shift_line.specs.declared.Entry.{Entry}
 use Rattle.shift_line.specs.declared.Entry.the-variants.{Reading, Unread}
 use Rattle.shift_line.specs.Lines.{allDigits, valueFrom, isRun, before, behind, parsed}
-use Rattle.shift_line.specs.Reads.{blank, spoilt, listNumber, keyNumber, listed, keyed, stepped, read, entryOf}
+use Rattle.shift_line.specs.Reads.{blank, spoilt, numbered, stepped, read, entryOf}
 
 -- a number only grows with more digits
 value-grows : (n : ℕ) (bs : List ℕ) → n ≤ valueFrom n bs
@@ -40,12 +40,12 @@ spoilt-unread (b ∷ bs) = ap (λ line. entryOf (read line bs)) (spoilt-stays b)
 
 -- ---- the key's digits ----
 abbrev inKey : ℕ → ℕ → Line
-inKey l n = record { part = KeyDigits; list = l; key = n }
+inKey l n = record { part = KeyDigits; list = l; number = n }
 
 abbrev readKey : ℕ → ℕ → List ℕ → Entry
 readKey l n bs = cond (allDigits bs) (cond (leb (valueFrom n bs) 4294967295) (Reading l (valueFrom n bs)) Unread) Unread
 
-key-step : (l n b : ℕ) → stepped (inKey l n) b ≡ keyNumber l (longer n b)
+key-step : (l n b : ℕ) → stepped (inKey l n) b ≡ numbered KeyDigits l (longer n b)
 unfolding stepped
 key-step l n b = refl
 
@@ -63,7 +63,7 @@ key-reads l n (b ∷ bs) h = elim (longer? n b) [
 
 -- ---- the space ----
 abbrev inSpace : ℕ → Line
-inSpace l = record { part = Space; list = l; key = 0 }
+inSpace l = record { part = Space; list = l; number = 0 }
 
 -- the first digit of a key is as a further one behind 0
 space-step : (l b : ℕ) → stepped (inSpace l) b ≡ stepped (inKey l 0) b
@@ -87,7 +87,7 @@ space-reads l (b ∷ bs) =
 
 -- ---- the list's digits ----
 abbrev inList : ℕ → Line
-inList n = record { part = ListDigits; list = n; key = 0 }
+inList n = record { part = ListDigits; list = 0; number = n }
 
 abbrev readList : ℕ → List ℕ → Entry
 readList n bs =
@@ -101,7 +101,7 @@ list-space : (n b : ℕ) → eqb b 32 ≡ true → stepped (inList n) b ≡ inSp
 unfolding stepped
 list-space n b e = rw e refl
 
-list-step : (n b : ℕ) → eqb b 32 ≡ false → stepped (inList n) b ≡ listNumber (longer n b)
+list-step : (n b : ℕ) → eqb b 32 ≡ false → stepped (inList n) b ≡ numbered ListDigits 0 (longer n b)
 unfolding stepped
 list-step n b e = rw e refl
 
@@ -130,7 +130,7 @@ no-space : (b : ℕ) → eqb b 32 ≡ true → longer 0 b ≡ None
 unfolding longer isDigit
 no-space b e = rw (eqb-true b 32 e) refl
 
-blank-step : (b : ℕ) → stepped blank b ≡ listNumber (longer 0 b)
+blank-step : (b : ℕ) → stepped blank b ≡ numbered ListDigits 0 (longer 0 b)
 unfolding stepped
 blank-step b = refl
 

@@ -14,28 +14,30 @@ use Rattle.shift_line.specs.declared.Part.{Part}
 use Rattle.shift_line.proofs.Part.{the-type}
 use Rattle.shift_line.specs.declared.Line.{Line}
 use Rattle.shift_line.specs.declared.Entry.the-variants.{Unread}
-use Rattle.shift_line.specs.Reads.{spoilt, listed, keyed, stepped, entryOf, entryIn}
+use Rattle.shift_line.specs.Reads.{spoilt, digited, stepped, entryOf, entryIn}
 
 module _ (line : Line) (b : ℕ) where
-  pub space-ends : line .part ≡ ListDigits → b ≡ 32 → stepped line b ≡ record { part = Space; list = line .list; key = 0 }
+  pub space-ends : line .part ≡ ListDigits → b ≡ 32 → stepped line b ≡ record { part = Space; list = line .number; number = 0 }
   unfolding stepped
   space-ends told test = simp (told, eq-eqb _ _ test)
 
-  pub list-goes-on : line .part ≡ ListDigits → (b ≡ 32 → ⊥) → stepped line b ≡ listed line b
+  pub list-goes-on : line .part ≡ ListDigits → (b ≡ 32 → ⊥) → stepped line b ≡ digited ListDigits line b
   unfolding stepped
   list-goes-on told test = simp (told, ne-eqb _ _ test)
 
-  pub list-is : (n : ℕ) → longer (line .list) b ≡ Is n → listed line b ≡ record { part = ListDigits; list = n; key = 0 }
-  list-is n e = simp e
+  pub key-begins : line .part ≡ Space → stepped line b ≡ digited KeyDigits line b
+  unfolding stepped
+  key-begins told = simp told
 
-  pub list-spoilt : longer (line .list) b ≡ None → listed line b ≡ spoilt
-  list-spoilt e = simp e
+  pub key-goes-on : line .part ≡ KeyDigits → stepped line b ≡ digited KeyDigits line b
+  unfolding stepped
+  key-goes-on told = simp told
 
-  pub key-is : (n : ℕ) → longer (line .key) b ≡ Is n → keyed line b ≡ record { part = KeyDigits; list = line .list; key = n }
-  key-is n e = simp e
+  pub number-is : (part : Part) (n : ℕ) → longer (line .number) b ≡ Is n → digited part line b ≡ record { part = part; list = line .list; number = n }
+  number-is part n e = simp e
 
-  pub key-spoilt : longer (line .key) b ≡ None → keyed line b ≡ spoilt
-  key-spoilt e = simp e
+  pub number-spoilt : (part : Part) → longer (line .number) b ≡ None → digited part line b ≡ spoilt
+  number-spoilt part e = simp e
 
 -- the key's digits are not the last part
 pub unread : (line : Line) → OneOf (0 ∷ 1 ∷ 2 ∷ 4 ∷ []) (tagOf the-type (line .part)) → entryOf line ≡ Unread

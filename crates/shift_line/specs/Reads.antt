@@ -13,30 +13,24 @@ use Rattle.shift_line.specs.declared.Entry.the-variants.{Reading, Unread
 use Rattle.digits.specs.Digits.{longer}
 
 abbrev pub blank : Line
-blank = record { part = Nothing; list = 0; key = 0 }
+blank = record { part = Nothing; list = 0; number = 0 }
 
 abbrev pub spoilt : Line
-spoilt = record { part = Spoilt; list = 0; key = 0 }
+spoilt = record { part = Spoilt; list = 0; number = 0 }
 
-abbrev pub listNumber : Number → Line
-listNumber (Is n) = record { part = ListDigits; list = n; key = 0 }
-listNumber None = spoilt
+-- One digit more of the number that is being read.
+abbrev pub numbered : Part → ℕ → Number → Line
+numbered part list (Is n) = record { part = part; list = list; number = n }
+numbered part list None = spoilt
 
-abbrev pub keyNumber : ℕ → Number → Line
-keyNumber l (Is n) = record { part = KeyDigits; list = l; key = n }
-keyNumber l None = spoilt
-
-abbrev pub listed : Line → ℕ → Line
-listed line b = listNumber (longer (line .list) b)
-
-abbrev pub keyed : Line → ℕ → Line
-keyed line b = keyNumber (line .list) (longer (line .key) b)
+abbrev pub digited : Part → Line → ℕ → Line
+digited part line b = numbered part (line .list) (longer (line .number) b)
 
 abbrev pub steppedIn : Part → Line → ℕ → Line
-steppedIn Nothing line b = listed line b
-steppedIn ListDigits line b = cond (eqb b 32) (record { part = Space; list = line .list; key = 0 }) (listed line b)
-steppedIn Space line b = keyed line b
-steppedIn KeyDigits line b = keyed line b
+steppedIn Nothing line b = digited ListDigits line b
+steppedIn ListDigits line b = cond (eqb b 32) (record { part = Space; list = line .number; number = 0 }) (digited ListDigits line b)
+steppedIn Space line b = digited KeyDigits line b
+steppedIn KeyDigits line b = digited KeyDigits line b
 steppedIn Spoilt line b = spoilt
 
 -- The line with one byte more, and with more bytes.
@@ -51,7 +45,7 @@ abbrev pub entryIn : Part → Line → Entry
 entryIn Nothing line = Unread
 entryIn ListDigits line = Unread
 entryIn Space line = Unread
-entryIn KeyDigits line = Reading (line .list) (line .key)
+entryIn KeyDigits line = Reading (line .list) (line .number)
 entryIn Spoilt line = Unread
 
 -- What the line says, if it ends here.

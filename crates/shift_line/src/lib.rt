@@ -1,7 +1,6 @@
 // One line of a shift's text, read byte by byte: `list key`, both decimal. A line has no longest length, so only its two numbers are kept.
 ghost use mathlib.Core.Path.{_≡_};
-ghost use Rattle.shift_line.specs.Reads.{blank, spoilt, stepped, entryOf};
-ghost use Rattle.shift_line.specs.Reads.{listed as withList, keyed as withKey};
+ghost use Rattle.shift_line.specs.Reads.{blank, spoilt, digited, stepped, entryOf};
 use digits::Number;
 
 const SPACE: u8 = b' ';
@@ -17,8 +16,10 @@ pub enum Part {
 
 pub struct Line {
     pub part: Part,
+    // The list, once the space is read.
     pub list: u32,
-    pub key: u32,
+    // The number that is being read.
+    pub number: u32,
 }
 
 // What a whole line says: a list and a key, or nothing that parses.
@@ -34,7 +35,7 @@ impl Line {
         Line {
             part: Part::Nothing,
             list: 0,
-            key: 0,
+            number: 0,
         }
     }
 
@@ -44,32 +45,20 @@ impl Line {
         Line {
             part: Part::Spoilt,
             list: 0,
-            key: 0,
+            number: 0,
         }
     }
 }
 
-fn listed(line: Line, b: u8) -> Line
-    ensures { λ r. ⌜ r ≡ withList line b ⌝ }
+// One digit more of the number that is being read.
+fn digit(line: Line, b: u8, part: Part) -> Line
+    ensures { λ r. ⌜ r ≡ digited part line b ⌝ }
 {
-    match digits::longer(line.list, b) {
+    match digits::longer(line.number, b) {
         Number::Is(n) => Line {
-            part: Part::ListDigits,
-            list: n,
-            key: 0,
-        },
-        Number::None => Line::spoilt(),
-    }
-}
-
-fn keyed(line: Line, b: u8) -> Line
-    ensures { λ r. ⌜ r ≡ withKey line b ⌝ }
-{
-    match digits::longer(line.key, b) {
-        Number::Is(n) => Line {
-            part: Part::KeyDigits,
+            part,
             list: line.list,
-            key: n,
+            number: n,
         },
         Number::None => Line::spoilt(),
     }
@@ -81,19 +70,19 @@ pub fn step(line: Line, b: u8) -> Line
 {
     let part = line.part;
     match part {
-        Part::Nothing => listed(line, b),
+        Part::Nothing => digit(line, b, Part::ListDigits),
         Part::ListDigits => {
             if b == SPACE {
                 return Line {
                     part: Part::Space,
-                    list: line.list,
-                    key: 0,
+                    list: line.number,
+                    number: 0,
                 };
             }
-            listed(line, b)
+            digit(line, b, Part::ListDigits)
         }
-        Part::Space => keyed(line, b),
-        Part::KeyDigits => keyed(line, b),
+        Part::Space => digit(line, b, Part::KeyDigits),
+        Part::KeyDigits => digit(line, b, Part::KeyDigits),
         Part::Spoilt => Line::spoilt(),
     }
 }
@@ -104,7 +93,7 @@ pub fn parse(line: Line) -> Entry
 {
     let part = line.part;
     match part {
-        Part::KeyDigits => Entry::Reading(line.list, line.key),
+        Part::KeyDigits => Entry::Reading(line.list, line.number),
         _ => Entry::Unread,
     }
 }

@@ -1,5 +1,6 @@
 -- `shift_line::step` meets its contract: one law, or none, for each arm.
-use Rattle.shift_line.proofs.StepLaws.{space-ends, list-goes-on}
+use Rattle.shift_line.proofs.StepLaws.{space-ends, list-goes-on, key-begins, key-goes-on}
+use mathlib.Core.Path.{sym, _∙_}
 use borrow.Author.Needs.{needs}
 use Rattle.shift_line.specs.Reads.{stepped}
 use Rattle.shift_line.proofs.step.Statement.{statement}
@@ -8,8 +9,8 @@ use Rattle.shift_line.proofs.step.Tie as tie
 enum-told : tie.Need-enum-told
 enum-told c = search needs
 
-listed-requires : tie.Need-listed-requires
-listed-requires c κs = search needs
+digit-requires : tie.Need-digit-requires
+digit-requires c κs = search needs
 
 enum-told-2 : tie.Need-enum-told-2
 enum-told-2 c = search needs
@@ -19,20 +20,20 @@ returns c =
     let (start, told, met) : tie.Start × tie.After-enum-told2 × tie.Then1 = search in
     cc (space-ends (start .args .line) (start .args .b) (cc) (met .if1 .taken))
 
-listed-requires-2 : tie.Need-listed-requires-2
-listed-requires-2 c κs = search needs
+digit-requires-2 : tie.Need-digit-requires-2
+digit-requires-2 c κs = search needs
 
 enum-told-3 : tie.Need-enum-told-3
 enum-told-3 c = search needs
 
-keyed-requires : tie.Need-keyed-requires
-keyed-requires c κs = search needs
+digit-requires-3 : tie.Need-digit-requires-3
+digit-requires-3 c κs = search needs
 
 enum-told-4 : tie.Need-enum-told-4
 enum-told-4 c = search needs
 
-keyed-requires-2 : tie.Need-keyed-requires-2
-keyed-requires-2 c κs = search needs
+digit-requires-4 : tie.Need-digit-requires-4
+digit-requires-4 c κs = search needs
 
 enum-told-5 : tie.Need-enum-told-5
 enum-told-5 c = search needs
@@ -50,12 +51,14 @@ returns-3 c =
     cc (list-goes-on (start .args .line) (start .args .b) (cc) (unmet .if1 .left))
 
 returns-4 : tie.Need-returns-4
-unfolding stepped
-returns-4 c = cc
+returns-4 c =
+    let (start, told, more) : tie.Start × tie.After-enum-told3 × tie.After-digit3 = search in
+    more .digit3 .ensures ∙ sym (key-begins (start .args .line) (start .args .b) (told .enum-told3 .given .1))
 
 returns-5 : tie.Need-returns-5
-unfolding stepped
-returns-5 c = cc
+returns-5 c =
+    let (start, told, more) : tie.Start × tie.After-enum-told4 × tie.After-digit4 = search in
+    more .digit4 .ensures ∙ sym (key-goes-on (start .args .line) (start .args .b) (told .enum-told4 .given .1))
 
 returns-6 : tie.Need-returns-6
 unfolding stepped
@@ -66,14 +69,14 @@ step-spec =
     tie.close
     (tie.spec
     enum-told
-    listed-requires
+    digit-requires
     enum-told-2
     returns
-    listed-requires-2
+    digit-requires-2
     enum-told-3
-    keyed-requires
+    digit-requires-3
     enum-told-4
-    keyed-requires-2
+    digit-requires-4
     enum-told-5
     spoilt-requires
     returns-2
