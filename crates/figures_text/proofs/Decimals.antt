@@ -1,6 +1,7 @@
 -- The digits that `io::decimal` spells are those of a number in decimal, at most ten of a u32 and twenty of a u64. Rests on Texts and io's Digits.
 use Prim.Native.Nat.{ℕ, zero, suc, _*_, _/_, _%_, _^_, _≤_, _<_}
-use mathlib.Core.Path.{_≡_}
+use mathlib.Core.Path.{_≡_, _∙_}
+use mathlib.Core.List.{List}
 use lib.Dec.{lit<}
 use lib.ListN.{length, length-append}
 use borrow.Author.Tests.{lt-ltb, le-ltb}
@@ -29,9 +30,10 @@ same-in (suc d) (suc (suc k)) n below few =
     let rest : n / 10 < 10 ^ suc d = omega (arith, pow-suc 10 (suc d)) in
     rw (le-ltb n 10 (fewer k n few .1), lt-ltb (n % 10) 10 (mod-lt n (lit< tt)), ← same-in d (suc k) (n / 10) rest (fewer k n few .0))
 
-pub same : (n k : ℕ) → n < 2 ^ 64 → Fewest 10 1 n k → digits 10 k n ≡ decimalOf n
+-- Bytes that spell the fewest digits are the number in decimal.
+pub spelt : (n k : ℕ) {bytes : List ℕ} → n < 2 ^ 64 → Fewest 10 1 n k → bytes ≡ digits 10 k n → bytes ≡ decimalOf n
 unfolding decimalOf
-same n k fits = same-in 19 k n (omega arith)
+spelt n k fits few e = e ∙ same-in 19 k n (omega arith) few
 
 -- A number below 10 ^ (k + 1) has at most k + 1 digits.
 short-in : (d k n : ℕ) → n < 10 ^ suc k → length (decimalIn d n) ≤ suc k
