@@ -33,7 +33,7 @@ pub enum Answer {
     Unknown,
     Lists(String),
     No(u32),
-    With(u32, Vec<u32>),
+    With(u32, Vec<u64>),
 }
 
 use Answer::{Lists, No, Silent, Unknown, With};
@@ -89,14 +89,14 @@ impl World {
         let index = if found { rank - 1 } else { rank };
         assert_eq!(list.rank(&key), found.then_some(index));
         if tally > allowance {
-            return With(10, vec![0, 0, allowance]);
+            return With(10, vec![0, 0, allowance.into()]);
         }
-        With(0, vec![u32::from(found), index as u32, tally])
+        With(0, vec![found.into(), index as u64, tally.into()])
     }
 
     fn read(&self, list: u32, index: usize) -> Answer {
         match self.lists[list as usize].get_by_index(index) {
-            Some(key) => With(0, vec![*key]),
+            Some(&key) => With(0, vec![key.into()]),
             None => With(8, vec![0]),
         }
     }
@@ -168,13 +168,14 @@ impl World {
         if index >= list.len() {
             return With(8, vec![0]);
         }
-        With(0, vec![list.remove(index)])
+        With(0, vec![list.remove(index).into()])
     }
 
     fn middle(&self, list: u32) -> Answer {
-        match self.lists[list as usize].len() {
+        let list = &self.lists[list as usize];
+        match list.len() {
             0 => With(8, vec![0]),
-            n => self.read(list, (n - 1) / 2),
+            n => With(0, vec![u64::from(list[(n - 1) / 2]) + u64::from(list[n / 2])]),
         }
     }
 
@@ -190,7 +191,7 @@ impl World {
 
     fn remove_key(&mut self, list: u32, key: u32) -> Answer {
         match self.lists[list as usize].take_first(&key) {
-            Some(key) => With(0, vec![key]),
+            Some(key) => With(0, vec![key.into()]),
             None => With(9, vec![0]),
         }
     }
@@ -242,7 +243,7 @@ impl World {
         match link_call(distance as usize, by) {
             // the crate's distances are of pointer width, ours of 32 bits
             Ok(d) if d > u32::MAX as usize => With(12, vec![0]),
-            Ok(d) => With(0, vec![d as u32]),
+            Ok(d) => With(0, vec![d as u64]),
             Err(no) => With(no, vec![0]),
         }
     }

@@ -47,6 +47,17 @@ def appends(s):
         s.say("dump")
 
 
+def middles(s):
+    s.note("middles: odd and even lengths, sums above 32 bits, an empty list")
+    s.arena(1, 2, 8)
+    for i, key in enumerate((N, N, 1, 0, N - 1, 7, N, 0)):
+        s.say("insert", 0, key, i % 3)
+        s.say("middle", 0)
+    for _ in range(8):
+        s.say("removeat", 0, 0)
+        s.say("middle", 0)
+
+
 def room(s):
     s.note("heights M and M + 1; a full arena, one remove, one insert in the freed slot")
     s.arena(1, 2, 3)
@@ -105,7 +116,7 @@ def distances(s):
 
 def limits(_seed, _calls):
     s = Script(0)
-    for part in (readings, appends, room, refusals, setups, distances):
+    for part in (readings, appends, middles, room, refusals, setups, distances):
         part(s)
     return s
 

@@ -168,7 +168,8 @@ class Paper:
         (chain,) = self.at(name)
         if not chain.keys:
             raise Refused(8)
-        return [0, chain.keys[(len(chain.keys) - 1) // 2]]
+        n = len(chain.keys)
+        return [0, chain.keys[(n - 1) // 2] + chain.keys[n // 2]]
 
     def level(self, name):
         (chain,) = self.at(name)

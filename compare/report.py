@@ -1,5 +1,5 @@
 #!/usr/bin/env python3
-"""Request K1 on paper: a shift's text on standard input, its report on standard output.
+"""Requests K1 and K2 on paper: a shift's text on standard input, its report on standard output.
 
 Nothing of the proved library is used: a text split at its newlines, and two sorted lists.
 """
@@ -31,8 +31,11 @@ def reading(line):
 
 
 def figures(keys):
+    """The quarter in the middle is doubled: K2's sum."""
     n = len(keys)
-    return [n, keys[0], keys[-1], *(keys[q * (n - 1) // 4] for q in (1, 2, 3))] if keys else [0]
+    if not keys:
+        return [0]
+    return [n, keys[0], keys[-1], keys[(n - 1) // 4], keys[(n - 1) // 2] + keys[n // 2], keys[3 * (n - 1) // 4]]
 
 
 def report(text):

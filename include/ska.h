@@ -9,8 +9,8 @@
    where it is accepted, else the number of the refusal, the lowest that applies. A refusal changes no word of the arena, and every
    out-parameter is then 0; but with SKA_BEYOND *tally is the allowance. Words and numbers may be any. Every call ends.
 
-   What a pointer must be. Not null, even where n is 0; aligned for uint32_t. w points to n words that the call may read and,
-   where w is not const, write. An out-parameter points to one word that the call may write; it overlaps neither w nor another
+   What a pointer must be. Not null, even where n is 0; aligned for its type. w points to n words that the call may read and,
+   where w is not const, write. An out-parameter points to one number that the call may write; it overlaps neither w nor another
    out-parameter. This a call cannot check: the caller vouches for it.
 
    Threads and interrupts. The library has no variables of its own, takes no lock and calls nothing outside itself. On one arena
@@ -106,9 +106,9 @@ uint32_t ska_split_key(uint32_t *w, size_t n, uint32_t from, uint32_t to, uint32
    Refusals 1, 3, 4. */
 uint32_t ska_append(uint32_t *w, size_t n, uint32_t a, uint32_t b);
 
-/* The key at index (length - 1) / 2, rounded down, in *key.
+/* Twice the median, in *twice: the sum of the keys at indexes (length - 1) / 2 and length / 2, both rounded down. It can pass 32 bits.
    Refusals 1, 3, 8. */
-uint32_t ska_middle(const uint32_t *w, size_t n, uint32_t list, uint32_t *key);
+uint32_t ska_middle(const uint32_t *w, size_t n, uint32_t list, uint64_t *twice);
 
 /* Gives every node of a list its height anew: the k-th node the number of times 2 divides k, at most M. A search in fewer than
    2^(M+1) keys then takes at most 2M + 2 comparisons.

@@ -9,9 +9,9 @@
 enum { LISTS = 3, LEVELS = 2, NODES = 6, WORDS = SKA_WORDS(LISTS, LEVELS, NODES) };
 enum { NOW, LATE, SPARE };
 
-static void expect(const char *what, uint32_t got, uint32_t wanted) {
+static void expect(const char *what, uint64_t got, uint64_t wanted) {
     if (got != wanted) {
-        printf("%s: %u, where %u was expected\n", what, (unsigned)got, (unsigned)wanted);
+        printf("%s: %llu, where %llu was expected\n", what, (unsigned long long)got, (unsigned long long)wanted);
         exit(1);
     }
 }
@@ -54,9 +54,10 @@ static void searches(const uint32_t *w) {
 
 static void changes(uint32_t *w) {
     uint32_t key = 9;
-    expect("middle", ska_middle(w, WORDS, NOW, &key), SKA_ACCEPTED);
-    expect("its key", key, 20);
-    printf("middle: %u\n", (unsigned)key);
+    uint64_t twice = 9;
+    expect("middle", ska_middle(w, WORDS, NOW, &twice), SKA_ACCEPTED);
+    expect("twice the median", twice, 40);
+    printf("middle: %llu, twice the median\n", (unsigned long long)twice);
     expect("split", ska_split_key(w, WORDS, NOW, LATE, 20), SKA_ACCEPTED);
     show(w, WORDS, NOW, "split by 20, first list");
     show(w, WORDS, LATE, "           second list");
@@ -79,6 +80,7 @@ static void changes(uint32_t *w) {
 
 static void refusals(uint32_t *w) {
     uint32_t found = 9, place = 9, tally = 9, key = 9;
+    uint64_t twice = 9;
     puts("refusals:");
     w[12] ^= 1;
     expect("check", ska_check(w, WORDS), 0);
@@ -94,6 +96,8 @@ static void refusals(uint32_t *w) {
     refused("split into a list with readings", ska_split_at(w, WORDS, NOW, LATE, 0), SKA_NOT_EMPTY, NULL);
     key = 9;
     refused("index 4 of 4", ska_read(w, WORDS, NOW, 4, &key), SKA_PAST_END, &key);
+    expect("an empty list's middle", ska_middle(w, WORDS, SPARE, &twice), SKA_PAST_END);
+    expect("a refusal's value", twice, 0);
     key = 9;
     refused("no such reading to remove", ska_remove_key(w, WORDS, NOW, 25, &key), SKA_NO_KEY, &key);
     refused("25 searched with 4 comparisons", ska_search(w, WORDS, NOW, 25, 4, &found, &place, &tally), SKA_BEYOND, NULL);
@@ -114,6 +118,7 @@ static void refusals(uint32_t *w) {
 static void largest(void) {
     size_t n = SKA_WORDS(16, 16, 65535);
     uint32_t *w = malloc(n * sizeof *w), found, place, tally;
+    uint64_t twice;
     if (w == NULL) exit(1);
     expect("set up", ska_set_up(w, n, 16, 16, 65535), SKA_ACCEPTED);
     for (uint32_t i = 0; i < 40; i++) expect("insert", ska_insert(w, n, i % 16, 1000 - i, i % 17), SKA_ACCEPTED);
@@ -122,6 +127,9 @@ static void largest(void) {
     expect("search", ska_search(w, n, 0, 984, SKA_NO_LIMIT, &found, &place, &tally), SKA_ACCEPTED);
     expect("found", found, 1);
     expect("place", place, 2);
+    expect("insert", ska_insert(w, n, 15, UINT32_MAX, 0), SKA_ACCEPTED);
+    expect("middle", ska_middle(w, n, 15, &twice), SKA_ACCEPTED);
+    expect("twice the largest reading", twice, 2 * (uint64_t)UINT32_MAX);
     expect("check", ska_check(w, n), 1);
     printf("largest arena: %zu words\n", n);
     show(w, n, 0, "its first list");

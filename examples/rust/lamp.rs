@@ -6,6 +6,7 @@ use ska::{link_lower, link_make, link_raise, words, Arena, Refusal, Searched, NO
 const SIZES: (u32, u32, u32) = (3, 2, 6);
 const NOW: u32 = 0;
 const LATE: u32 = 1;
+const SPARE: u32 = 2;
 
 /// The keys of a list, in order.
 fn keys(arena: &Arena, list: u32) -> Result<Vec<u32>, Refusal> {
@@ -42,7 +43,7 @@ fn searches(arena: &Arena) -> Result<(), Refusal> {
         assert_eq!(answer, wanted);
         println!("search {key}: {answer:?}");
     }
-    assert_eq!(arena.middle(NOW)?, 20);
+    assert_eq!(arena.middle(NOW)?, 40);
     Ok(())
 }
 
@@ -89,6 +90,7 @@ fn refusals(w: &mut [u32]) -> Result<(), Refusal> {
     refused("a seventh reading", arena.insert(NOW, 60, 0), Refusal::FULL);
     refused("split into a list with readings", arena.split_at(NOW, LATE, 0), Refusal::NOT_EMPTY);
     refused("index 4 of 4", arena.read(NOW, 4), Refusal::PAST_END);
+    assert_eq!(arena.middle(SPARE), Err(Refusal::PAST_END));
     refused("no such reading to remove", arena.remove_key(NOW, 25), Refusal::NO_KEY);
     refused("25 searched with 4 comparisons", arena.search(NOW, 25, 4), Refusal::BEYOND);
     assert_eq!(link_make(7)?, 7);
@@ -114,6 +116,8 @@ fn largest() -> Result<(), Refusal> {
     assert!(matches!(arena.search(0, 984, NO_LIMIT)?, Searched::Found { index: 2, .. }));
     println!("its first list: {:?}", keys(&arena, 0)?);
     assert_eq!(keys(&arena, 0)?, [968, 969, 984, 985, 1000]);
+    arena.insert(15, u32::MAX, 0)?;
+    assert_eq!(arena.middle(15)?, 2 * u64::from(u32::MAX));
     assert!(arena.check());
     *w.last_mut().unwrap() = 1;
     let mut damaged = Arena::lent(&mut w);

@@ -22,7 +22,7 @@ extern "C" {
     pub fn ska_split_at(w: *mut u32, n: usize, from: u32, to: u32, index: u32) -> u32;
     pub fn ska_split_key(w: *mut u32, n: usize, from: u32, to: u32, key: u32) -> u32;
     pub fn ska_append(w: *mut u32, n: usize, a: u32, b: u32) -> u32;
-    pub fn ska_middle(w: *const u32, n: usize, list: u32, key: *mut u32) -> u32;
+    pub fn ska_middle(w: *const u32, n: usize, list: u32, twice: *mut u64) -> u32;
     pub fn ska_level(w: *mut u32, n: usize, list: u32) -> u32;
     pub fn ska_link_make(d: u32, distance: *mut u32) -> u32;
     pub fn ska_link_raise(d: u32, distance: *mut u32) -> u32;

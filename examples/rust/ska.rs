@@ -112,10 +112,10 @@ impl<'a> Arena<'a> {
         told(unsafe { raw::ska_read(self.0.as_ptr(), self.0.len(), list, index, &mut key) }, ()).map(|()| key)
     }
 
-    /// The key at index (length - 1) / 2, rounded down.
-    pub fn middle(&self, list: u32) -> Result<u32, Refusal> {
-        let mut key = 0;
-        told(unsafe { raw::ska_middle(self.0.as_ptr(), self.0.len(), list, &mut key) }, ()).map(|()| key)
+    /// Twice the median: the sum of the keys at indexes (length - 1) / 2 and length / 2, both rounded down.
+    pub fn middle(&self, list: u32) -> Result<u64, Refusal> {
+        let mut twice = 0;
+        told(unsafe { raw::ska_middle(self.0.as_ptr(), self.0.len(), list, &mut twice) }, ()).map(|()| twice)
     }
 
     /// Puts a key before the first that is not below it, with links on `height` levels: give 0 where you have no height, and call

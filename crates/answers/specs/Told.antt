@@ -8,6 +8,8 @@ use Rattle.answers.specs.declared.SearchAnswer.{SearchAnswer}
 use Rattle.answers.specs.declared.SearchAnswer.the-variants.{Found, Missing, Beyond, Refused}
 use Rattle.answers.specs.declared.KeyAnswer.{KeyAnswer}
 use Rattle.answers.specs.declared.KeyAnswer.the-variants.{Is, Refused as RefusedKey}
+use Rattle.answers.specs.declared.MiddleAnswer.{MiddleAnswer}
+use Rattle.answers.specs.declared.MiddleAnswer.the-variants.{Twice, Refused as RefusedMiddle}
 use Rattle.answers.specs.declared.PlainAnswer.{PlainAnswer}
 use Rattle.answers.specs.declared.PlainAnswer.the-variants.{Accepted, Refused as RefusedPlain}
 
@@ -31,6 +33,11 @@ searchTold (Refused r) = refused (numberOf r)
 abbrev pub keyTold : KeyAnswer → Answer
 keyTold (Is k) = keyed k
 keyTold (RefusedKey r) = refused (numberOf r)
+
+-- Request K2: "twice the median", in the place of a key.
+abbrev pub middleTold : MiddleAnswer → Answer
+middleTold (Twice n) = keyed n
+middleTold (RefusedMiddle r) = refused (numberOf r)
 
 abbrev pub plainTold : PlainAnswer → Answer
 plainTold Accepted = plain

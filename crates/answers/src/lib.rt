@@ -32,6 +32,12 @@ pub enum KeyAnswer {
     Refused(Refusal),
 }
 
+// What the middle call answers: twice the median.
+pub enum MiddleAnswer {
+    Twice(u64),
+    Refused(Refusal),
+}
+
 // What a call that answers nothing more answers.
 pub enum PlainAnswer {
     Accepted,

@@ -16,7 +16,7 @@ fn none(w: &[u32], item: Item) {
 
 fn one(w: &mut [u32], item: Item, a: u32) {
     match item {
-        Item::Middle => lines::key(ska::middle(w, Slot(a))),
+        Item::Middle => lines::middle(ska::middle(w, Slot(a))),
         Item::Clear => lines::plain(ska::clear(w, Slot(a))),
         Item::Level => lines::plain(ska::level(w, Slot(a))),
         Item::LinkMake => lines::distance(ska::link_make(a)),

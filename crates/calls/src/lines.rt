@@ -1,5 +1,6 @@
 // The answer lines.
 use answers::KeyAnswer;
+use answers::MiddleAnswer;
 use answers::PlainAnswer;
 use answers::SearchAnswer;
 use link::Distance;
@@ -10,11 +11,11 @@ fn number(n: u32) {
     Text::new().decimal(n).byte(b'\n').print();
 }
 
-fn pair(n: u32, k: u32) {
+fn pair(n: u32, value: u64) {
     Text::new()
         .decimal(n)
         .byte(b' ')
-        .decimal(k)
+        .decimal_u64(value)
         .byte(b'\n')
         .print();
 }
@@ -29,7 +30,7 @@ pub fn setup(a: Setup) {
 
 pub fn distance(a: Distance) {
     let n = numbers::of_distance(a);
-    pair(n.number, n.distance);
+    pair(n.number, n.distance as u64);
 }
 
 pub fn plain(a: PlainAnswer) {
@@ -38,7 +39,12 @@ pub fn plain(a: PlainAnswer) {
 
 pub fn key(a: KeyAnswer) {
     let n = numbers::of_key(a);
-    pair(n.number, n.key);
+    pair(n.number, n.key as u64);
+}
+
+pub fn middle(a: MiddleAnswer) {
+    let n = numbers::of_middle(a);
+    pair(n.number, n.twice);
 }
 
 pub fn search(a: SearchAnswer) {

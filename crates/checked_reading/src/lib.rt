@@ -4,9 +4,10 @@ ghost use mathlib.Core.Path.{_≡_};
 ghost use Rattle.model.specs.Passes.{Passes};
 ghost use Rattle.model.specs.Calls.{search, read, middle};
 ghost use Rattle.key_walk.specs.SearchAnswer.{answerOf};
-ghost use Rattle.answers.specs.Told.{searchTold, keyTold};
+ghost use Rattle.answers.specs.Told.{searchTold, keyTold, middleTold};
 ghost use Rattle.answers.specs.Kept.{Kept};
 use answers::KeyAnswer;
+use answers::MiddleAnswer;
 use answers::Named;
 use answers::Refusal;
 use answers::SearchAnswer;
@@ -50,16 +51,16 @@ pub fn read(w: &[u32], list: Slot, i: Index) -> KeyAnswer
     KeyAnswer::Is(rank_walk::read(w, m, list, i))
 }
 
-pub fn middle(w: &[u32], list: Slot) -> KeyAnswer
+pub fn middle(w: &[u32], list: Slot) -> MiddleAnswer
     requires { ⌜ Passes (now w) ⌝ }
-    ensures { λ r. ⌜ Kept (middle (list .0)) (now (w .entry)) (now (w .entry)) (keyTold r) ⌝ }
+    ensures { λ r. ⌜ Kept (middle (list .0)) (now (w .entry)) (now (w .entry)) (middleTold r) ⌝ }
 {
     let m = match answers::one_list(w, list) {
         Named::Levels(m) => m,
-        Named::Refused(r) => return KeyAnswer::Refused(r),
+        Named::Refused(r) => return MiddleAnswer::Refused(r),
     };
     if rank_walk::length(w, m, list) == 0 {
-        return KeyAnswer::Refused(Refusal::PastEnd);
+        return MiddleAnswer::Refused(Refusal::PastEnd);
     }
-    KeyAnswer::Is(rank_walk::middle(w, m, list))
+    MiddleAnswer::Twice(rank_walk::middle(w, m, list))
 }

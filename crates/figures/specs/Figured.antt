@@ -1,4 +1,4 @@
--- Request K1: the figures of a list, and what the call that gives them promises. Rests on model's Nodes, Arena and Passes.
+-- Request K1: the figures of a list, and what the call that gives them promises. Rests on model's Nodes, Lists, Arena and Passes.
 use Prim.Native.Nat.{ℕ, _-_, _*_, _/_}
 use mathlib.Core.Path.{_≡_}
 use mathlib.Core.Bool.{cond}
@@ -6,6 +6,7 @@ use mathlib.Core.List.{List}
 use lib.Dec.{ltb}
 use lib.ListN.{length}
 use Rattle.model.specs.Nodes.{Node, keyAt}
+use Rattle.model.specs.Lists.{middleOf}
 use Rattle.model.specs.Arena.{State, listOf}
 use Rattle.model.specs.Passes.{decode, Passes}
 use Rattle.answers.specs.declared.Refusal.the-variants.{Broken, NoList}
@@ -17,8 +18,8 @@ use Rattle.figures.specs.declared.FiguresAnswer.the-variants.{Are, Refus
 abbrev pub quarter : ℕ → List Node → ℕ
 quarter q xs = keyAt xs (q * (length xs - 1) / 4)
 
--- "number of readings, smallest, largest, and the keys at indexes floor(q(n-1)/4) for q = 1, 2, 3"; keys stand in order, so the smallest is the first
--- and the largest the last. A list without readings has zeros beside its number 0.
+-- "number of readings, smallest, largest, and the keys at indexes floor(q(n-1)/4) for q = 1, 2, 3"; request K2: "the report prints the doubled figure
+-- for q = 2". Keys stand in order, so the smallest is the first and the largest the last. A list without readings has zeros beside its number 0.
 abbrev pub figuresOf : List Node → Figures
 figuresOf xs =
     record {
@@ -26,7 +27,7 @@ figuresOf xs =
       smallest = keyAt xs 0;
       largest = keyAt xs (length xs - 1);
       lower = quarter 1 xs;
-      middle = quarter 2 xs;
+      middle = middleOf xs;
       upper = quarter 3 xs;
     }
 

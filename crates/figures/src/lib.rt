@@ -1,6 +1,6 @@
-// The figures of a list for a shift's report: how many readings, the smallest, the largest, and those at the quarters.
+// The figures of a list for a shift's report: how many readings, the smallest, the largest, those at a quarter and three quarters, twice the median.
 ghost use mathlib.Core.Path.{_≡_};
-ghost use Prim.Native.Nat.{_≤_, _<_};
+ghost use Prim.Native.Nat.{_*_, _≤_, _<_};
 ghost use lib.ListN.{length};
 ghost use Rattle.model.specs.Passes.{nodes};
 ghost use Rattle.arena.specs.Owners.{Listed};
@@ -15,7 +15,7 @@ pub struct Figures {
     pub smallest: u32,
     pub largest: u32,
     pub lower: u32,
-    pub middle: u32,
+    pub middle: u64, // twice the median
     pub upper: u32,
 }
 
@@ -37,6 +37,7 @@ fn quarter(w: &[u32], m: usize, list: Slot, n: u32, q: u32) -> u32
 pub fn of(w: &[u32], m: usize, list: Slot) -> Figures
     requires { ⌜ Listed (now w) m (list .0) ⌝ }
     ensures { λ r. ⌜ r ≡ figuresOf (nodes (now (w .entry)) (list .0)) ⌝ }
+    ensures { λ r. ⌜ r .middle ≤ 2 * 4294967295 ⌝ }
 {
     let n = rank_walk::length(w, m, list);
     if n == 0 {
@@ -52,7 +53,7 @@ pub fn of(w: &[u32], m: usize, list: Slot) -> Figures
     let smallest = rank_walk::read(w, m, list, Index(0));
     let largest = rank_walk::read(w, m, list, Index(n - 1));
     let lower = quarter(w, m, list, n, 1);
-    let middle = quarter(w, m, list, n, 2);
+    let middle = rank_walk::middle(w, m, list);
     let upper = quarter(w, m, list, n, 3);
     Figures {
         count: n,

@@ -1,4 +1,4 @@
--- The digits that `io::decimal` spells are those of a number in decimal, at most ten of a u32 and twenty of a u64. Rests on Texts and io's Digits.
+-- The digits that `io::decimal` spells are those of a number in decimal, at most ten of a sum of two u32 and twenty of a u64. Rests on Texts and io's Digits.
 use Prim.Native.Nat.{ℕ, zero, suc, _*_, _/_, _%_, _^_, _≤_, _<_}
 use mathlib.Core.Path.{_≡_, _∙_}
 use mathlib.Core.List.{List}
@@ -46,7 +46,7 @@ short-in (suc d) (suc k) n below =
       | no q ↦ rw (lt-ltb n 10 (lt-of-not-le q)) (omega arith)
     ]
 
-pub ten : (n : ℕ) → n < 2 ^ 32 → length (decimalOf n) ≤ 10
+pub ten : (n : ℕ) → n ≤ 2 * 4294967295 → length (decimalOf n) ≤ 10
 unfolding decimalOf
 ten n fits = short-in 20 9 n (omega arith)
 

@@ -1,7 +1,7 @@
 -- A report's line is put piece by piece: bytes put one behind the other are put as one, and so are numbers behind spaces. Rests on Texts.
 use Prim.Native.Nat.{ℕ, _+_, _≤_, _<_}
 use mathlib.Core.List.{List, [], _∷_, _++_, append-assoc, append-nil}
-use mathlib.Core.Path.{_≡_, refl, sym, _∙_}
+use mathlib.Core.Path.{_≡_, refl, sym, _∙_, subst}
 use lib.ListN.{length, take, drop, set, getD, length-append}
 use lib.Seq.{take-suc-set, drop-set-lt, drop-drop, take-length, take-suc, paste, take-paste, drop-paste}
 use native.Mathlib.Nat.{le-refl}
@@ -41,6 +41,9 @@ both {at} {m} {n} {xs} {ys} {a} {b} {c} p q =
 spaced-append : (xs ys : List ℕ) → spaced (xs ++ ys) ≡ spaced xs ++ spaced ys
 spaced-append [] ys = refl
 spaced-append (x ∷ xs) ys = rw (spaced-append xs ys, append-assoc)
+
+pub then : {at m n : ℕ} {a b c : List ℕ} (xs ys : List ℕ) → Put at (spaced xs) a b m → Put m (spaced ys) b c n → Put at (spaced (xs ++ ys)) a c n
+then {at} {n = n} {a} {c = c} xs ys p q = subst (λ (zs : List ℕ). Put at zs a c n) (sym (spaced-append xs ys)) (both p q)
 
 -- One number more.
 pub one-more : (ns : List ℕ) (i : ℕ) → i < length ns → spaced (take (i + 1) ns) ≡ spaced (take i ns) ++ spaced (getD ns i 0 ∷ [])

@@ -23,7 +23,7 @@ spaced [] = []
 spaced (n ∷ ns) = 32 ∷ decimalOf n ++ spaced ns
 
 -- "per list: number of readings, smallest, largest, and the keys at indexes floor(q(n-1)/4) for q = 1, 2, 3"; "A list without readings prints its
--- number and 0 only."
+-- number and 0 only." Request K2: "the report prints the doubled figure for q = 2".
 abbrev pub shown : Figures → List ℕ
 shown f = cond (eqb (f .count) 0) (0 ∷ []) (f .count ∷ f .smallest ∷ f .largest ∷ f .lower ∷ f .middle ∷ f .upper ∷ [])
 

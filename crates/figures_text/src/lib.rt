@@ -34,14 +34,14 @@ fn decimal(out: &mut [u8], at: usize, n: u64) -> usize
     bytes(out, at, &digits[..k])
 }
 
-// A space and a number, in at most 11 bytes.
-fn number(out: &mut [u8], at: usize, n: u32) -> usize
-    requires { ⌜ at + 11 ≤ length (now out) ⌝ }
+// A space and a key, or the sum of two, in at most 11 bytes.
+fn number(out: &mut [u8], at: usize, n: u64) -> usize
+    requires { ⌜ (at + 11 ≤ length (now out)) × (n ≤ 2 * 4294967295) ⌝ }
     ensures { λ r. ⌜ Put at (spaced (n ∷ [])) (now (out .entry)) (now (out .exit)) r ⌝ }
     ensures { λ r. ⌜ r ≤ at + 11 ⌝ }
 {
     let behind = byte(out, at, b' ');
-    decimal(out, behind, n as u64)
+    decimal(out, behind, n)
 }
 
 fn numbers(out: &mut [u8], at: usize, ns: &[u32]) -> usize
@@ -52,7 +52,7 @@ fn numbers(out: &mut [u8], at: usize, ns: &[u32]) -> usize
     let mut end = at;
     let mut i: usize = 0;
     while i < ns.len() {
-        end = number(out, end, ns[i]);
+        end = number(out, end, ns[i] as u64);
         i += 1;
     }
     end
@@ -60,20 +60,21 @@ fn numbers(out: &mut [u8], at: usize, ns: &[u32]) -> usize
 
 // The figures of a list, or a 0 if it has no readings.
 fn show(out: &mut [u8], at: usize, f: Figures) -> usize
-    requires { ⌜ at + 66 ≤ length (now out) ⌝ }
+    requires { ⌜ (at + 66 ≤ length (now out)) × (f .middle ≤ 2 * 4294967295) ⌝ }
     ensures { λ r. ⌜ Put at (spaced (shown f)) (now (out .entry)) (now (out .exit)) r ⌝ }
     ensures { λ r. ⌜ r ≤ at + 66 ⌝ }
 {
     if f.count == 0 {
         return number(out, at, 0);
     }
-    let all = [f.count, f.smallest, f.largest, f.lower, f.middle, f.upper];
-    numbers(out, at, &all)
+    let first = numbers(out, at, &[f.count, f.smallest, f.largest, f.lower]);
+    let middle = number(out, first, f.middle);
+    number(out, middle, f.upper as u64)
 }
 
 // The line of a list, in at most 77 bytes: 10 for its number, 66 for its figures, and the newline.
 pub fn line(out: &mut [u8], at: usize, list: u32, f: Figures) -> usize
-    requires { ⌜ at + 77 ≤ length (now out) ⌝ }
+    requires { ⌜ (at + 77 ≤ length (now out)) × (f .middle ≤ 2 * 4294967295) ⌝ }
     ensures { λ r. ⌜ Put at (lineOf list f) (now (out .entry)) (now (out .exit)) r ⌝ }
     ensures { λ r. ⌜ r ≤ at + 77 ⌝ }
 {

@@ -1,6 +1,6 @@
 -- What the calls answer, in document 01's words: the search's found, place and tally; the key that a removal by key takes out; refusals.
 -- Rests on ByKey, Allowed and KeysAfter.
-use Prim.Native.Nat.{ℕ, _-_, _/_}
+use Prim.Native.Nat.{ℕ, _+_, _-_, _/_}
 use mathlib.Core.Path.{_≡_, refl, sym, ap, _∙_}
 use mathlib.Core.Logic.{_≢_}
 use mathlib.Core.List.{List}
@@ -44,7 +44,7 @@ module _ (S : State) (v : Sound S) (a k : ℕ) where
     rw (key-place (S .levels) k xs (sorted-list S v a)) at (key-found (S .levels) k xs (sorted-list S v a) (allowed S (removeKey a k) p .1) .equal),
   )
 
--- "read, both removes and middle a key"
+-- "read, both removes .. a key", and middle the sum of two
 module _ (S : State) (a : ℕ) where
   pub read-answers : (i : ℕ) → refusal S (read a i) ≡ 0 → answerTo S (read a i) ≡ keyed (getD (keys (listOf S a)) i 0)
   read-answers i p = answer-accepted S (read a i) p ∙ ap keyed (key-at (listOf S a) i)
@@ -52,6 +52,8 @@ module _ (S : State) (a : ℕ) where
   pub remove-answers : (i : ℕ) → refusal S (removeIndex a i) ≡ 0 → answerTo S (removeIndex a i) ≡ keyed (getD (keys (listOf S a)) i 0)
   remove-answers i p = answer-accepted S (removeIndex a i) p ∙ ap keyed (key-at (listOf S a) i)
 
-  -- "the key at index floor((length - 1) / 2)"
-  pub middle-answers : refusal S (middle a) ≡ 0 → answerTo S (middle a) ≡ keyed (getD (keys (listOf S a)) ((length (listOf S a) - 1) / 2) 0)
-  middle-answers p = answer-accepted S (middle a) p ∙ ap keyed (key-at (listOf S a) ((length (listOf S a) - 1) / 2))
+  -- "the sum of the keys at indexes floor((n-1)/2) and floor(n/2)"
+  pub middle-answers : refusal S (middle a) ≡ 0
+      → let n = length (listOf S a) in answerTo S (middle a) ≡ keyed (getD (keys (listOf S a)) ((n - 1) / 2) 0 + getD (keys (listOf S a)) (n / 2) 0)
+  middle-answers p = let n = length (listOf S a) in
+      answer-accepted S (middle a) p ∙ (λ i. keyed (key-at (listOf S a) ((n - 1) / 2) i + key-at (listOf S a) (n / 2) i))

@@ -52,8 +52,8 @@ pub record Table : Type 0 where
   -- "P10 append 20, 40 to 10, 30: 10, 20, 30, 40."
   pub p10 : keys (listOf (resultOf two (appendList 0 1)) 0) ≡ 10 ∷ 20 ∷ 30 ∷ 40 ∷ []
   pub p10-empty : listOf (resultOf two (appendList 0 1)) 1 ≡ []
-  -- "P11 middle of Q: 20."
-  pub p11 : answerTo four (middle 0) ≡ keyed 20
+  -- P11 middle of Q, request K2: "Q gives 40."
+  pub p11 : answerTo four (middle 0) ≡ keyed 40
   -- "P12 the two arenas printed above."
   pub p12 : encode (setUp 1 1 2)
       ≡ 4279123 ∷ 1 ∷ 1 ∷ 1 ∷ 2 ∷ 1 ∷ 2 ∷ 0

@@ -118,7 +118,7 @@ pub record Answer : Type 0 where
 abbrev pub searched : Bool → ℕ → ℕ → Answer
 searched met r n = record { number = 0; found = cond met 1 0; place = r; key = 0; tally = n }
 
--- "read, both removes and middle a key".
+-- "read, both removes .. a key"; request K2: "The middle call answers twice the median", which stands in the place of a key.
 abbrev pub keyed : ℕ → Answer
 keyed k = record { number = 0; found = 0; place = 0; key = k; tally = 0 }
 

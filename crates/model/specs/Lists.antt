@@ -1,10 +1,10 @@
 -- What each operation does to the nodes of a list ("What each operation leaves"). Rests on Nodes.
-use Prim.Native.Nat.{ℕ, zero, suc, _-_, _/_, _%_}
+use Prim.Native.Nat.{ℕ, zero, suc, _+_, _-_, _/_, _%_}
 use mathlib.Core.Bool.{cond}
 use mathlib.Core.List.{List, [], _∷_, _++_}
 use lib.Dec.{leb, eqb}
-use lib.ListN.{length, take, drop, getD}
-use Rattle.model.specs.Nodes.{Node, node, N, smaller}
+use lib.ListN.{length, take, drop}
+use Rattle.model.specs.Nodes.{Node, node, keyAt, smaller}
 
 -- "Insert .. stands before the first key not below its own, so before all equal keys, or last if there is no such key."
 abbrev pub insertAt : ℕ → Node → List Node → List Node
@@ -41,9 +41,9 @@ append (a ∷ aa) (b ∷ bb) =
     cond (leb (lastKey (a ∷ aa)) (b .key)) ((a ∷ aa) ++ (b ∷ bb))
     (cond (leb (lastKey (b ∷ bb)) (a .key)) ((b ∷ bb) ++ (a ∷ aa)) (mergeIn (b ∷ bb) (a ∷ aa)))
 
--- "Middle: the key at index floor((length - 1) / 2)."
+-- Request K2: "The middle call answers twice the median: the sum of the keys at indexes floor((n-1)/2) and floor(n/2), as u64."
 abbrev pub middleOf : List Node → ℕ
-middleOf xs = getD xs ((length xs - 1) / 2) (node N 0 0) .key
+middleOf xs = keyAt xs ((length xs - 1) / 2) + keyAt xs (length xs / 2)
 
 -- "Levelling (added): the node of rank k gets as height the number of times 2 divides k, at most M; slots and keys stay."
 abbrev pub twos : ℕ → ℕ → ℕ

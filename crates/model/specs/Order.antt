@@ -60,7 +60,8 @@ pub record Sequences : Type 0 where
   pub splits-key : {a b k : ℕ} {w u : List ℕ} {r : Answer} → Accepted (splitKey a b k) w u r
       → let n = smallerKeys k (nodes w a) in (keys (nodes u a) ≡ take n (keys (nodes w a))) × (keys (nodes u b) ≡ drop n (keys (nodes w a)))
   pub appends : {a b : ℕ} {w u : List ℕ} {r : Answer} → Accepted (appendList a b) w u r → Appended (decode w) a b (decode u)
-  pub middles : {a : ℕ} {w u : List ℕ} {r : Answer} → Accepted (middle a) w u r → r .key ≡ getD (keys (nodes w a)) ((length (nodes w a) - 1) / 2) 0
+  pub middles : {a : ℕ} {w u : List ℕ} {r : Answer} → Accepted (middle a) w u r
+      → let n = length (nodes w a) in r .key ≡ getD (keys (nodes w a)) ((n - 1) / 2) 0 + getD (keys (nodes w a)) (n / 2) 0
   pub levels : {a : ℕ} {w u : List ℕ} {r : Answer} → Accepted (level a) w u r → (i : ℕ) → i < length (nodes w a)
       → LevelledAt (decode w .levels) (at (nodes w a) i) (at (nodes u a) i) (suc i)
   pub levels-keys : {a : ℕ} {w u : List ℕ} {r : Answer} → Accepted (level a) w u r → keys (nodes u a) ≡ keys (nodes w a)

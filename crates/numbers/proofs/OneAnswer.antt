@@ -13,13 +13,15 @@ use Rattle.link.specs.declared.Distance.the-variants.{Is as IsDistance, Invalid
 use Rattle.setup.specs.Bare.{numberOf as setupNumber}
 use Rattle.setup.specs.declared.Setup.{Setup}
 use Rattle.setup.specs.declared.Setup.the-variants.{Done, Wrong}
-use Rattle.answers.specs.Told.{searchTold, keyTold, plainTold}
+use Rattle.answers.specs.Told.{searchTold, keyTold, middleTold, plainTold}
 use Rattle.answers.proofs.Numbers.{refusalOf}
 use Rattle.answers.specs.declared.Refusal.the-variants.{Broken, NoList, SameList, TooHigh, Full, NotEmpty, PastEnd, NoKey}
 use Rattle.answers.specs.declared.SearchAnswer.{SearchAnswer}
 use Rattle.answers.specs.declared.SearchAnswer.the-variants.{Found, Missing, Beyond, Refused}
 use Rattle.answers.specs.declared.KeyAnswer.{KeyAnswer}
 use Rattle.answers.specs.declared.KeyAnswer.the-variants.{Is, Refused as RefusedKey}
+use Rattle.answers.specs.declared.MiddleAnswer.{MiddleAnswer}
+use Rattle.answers.specs.declared.MiddleAnswer.the-variants.{Twice, Refused as RefusedMiddle}
 use Rattle.answers.specs.declared.PlainAnswer.{PlainAnswer}
 use Rattle.answers.specs.declared.PlainAnswer.the-variants.{Accepted, Refused as RefusedPlain}
 
@@ -32,6 +34,9 @@ searchOf x =
 
 abbrev keyOf : Answer → KeyAnswer
 keyOf x = cond (eqb (x .number) 0) (Is (x .key)) (RefusedKey (refusalOf (x .number)))
+
+abbrev twiceOf : Answer → MiddleAnswer
+twiceOf x = cond (eqb (x .number) 0) (Twice (x .key)) (RefusedMiddle (refusalOf (x .number)))
 
 abbrev plainOf : Answer → PlainAnswer
 plainOf x = cond (eqb (x .number) 0) Accepted (RefusedPlain (refusalOf (x .number)))
@@ -66,6 +71,17 @@ key-back (RefusedKey NotEmpty) = refl
 key-back (RefusedKey PastEnd) = refl
 key-back (RefusedKey NoKey) = refl
 
+middle-back : (a : MiddleAnswer) → twiceOf (middleTold a) ≡ a
+middle-back (Twice n) = refl
+middle-back (RefusedMiddle Broken) = refl
+middle-back (RefusedMiddle NoList) = refl
+middle-back (RefusedMiddle SameList) = refl
+middle-back (RefusedMiddle TooHigh) = refl
+middle-back (RefusedMiddle Full) = refl
+middle-back (RefusedMiddle NotEmpty) = refl
+middle-back (RefusedMiddle PastEnd) = refl
+middle-back (RefusedMiddle NoKey) = refl
+
 plain-back : (a : PlainAnswer) → plainOf (plainTold a) ≡ a
 plain-back Accepted = refl
 plain-back (RefusedPlain Broken) = refl
@@ -98,6 +114,9 @@ module _ {c : Call} {w u v : List ℕ} where
 
   pub one-key : {a b : KeyAnswer} → Promise c w u (keyTold a) → Promise c w v (keyTold b) → (a ≡ b) × (u ≡ v)
   one-key p q = let e = call-unique p q in (one keyTold keyOf key-back (e .0), e .1)
+
+  pub one-middle : {a b : MiddleAnswer} → Promise c w u (middleTold a) → Promise c w v (middleTold b) → (a ≡ b) × (u ≡ v)
+  one-middle p q = let e = call-unique p q in (one middleTold twiceOf middle-back (e .0), e .1)
 
   pub one-plain : {a b : PlainAnswer} → Promise c w u (plainTold a) → Promise c w v (plainTold b) → (a ≡ b) × (u ≡ v)
   one-plain p q = let e = call-unique p q in (one plainTold plainOf plain-back (e .0), e .1)

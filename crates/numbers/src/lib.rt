@@ -4,9 +4,10 @@ ghost use mathlib.Core.Bool.{cond};
 ghost use Rattle.model.specs.Calls.{searched, keyed, refused, beyond};
 ghost use Rattle.setup.specs.Bare.{numberOf as setupNumber};
 ghost use Rattle.link.specs.Distances.{told};
-ghost use Rattle.answers.specs.Told.{numberOf, searchTold, keyTold, plainTold};
-ghost use Rattle.numbers.specs.Read.{answerOf, distanceOf};
+ghost use Rattle.answers.specs.Told.{numberOf, searchTold, keyTold, middleTold, plainTold};
+ghost use Rattle.numbers.specs.Read.{answerOf, twiceOf, distanceOf};
 use answers::KeyAnswer;
+use answers::MiddleAnswer;
 use answers::PlainAnswer;
 use answers::Refusal;
 use answers::SearchAnswer;
@@ -21,6 +22,12 @@ pub struct Numbers {
     pub place: u32,
     pub key: u32,
     pub tally: u32,
+}
+
+// An answer of the middle call.
+pub struct MiddleNumbers {
+    pub number: u32,
+    pub twice: u64,
 }
 
 // An answer of a link call.
@@ -116,6 +123,18 @@ pub fn of_key(a: KeyAnswer) -> Numbers
     match a {
         KeyAnswer::Is(k) => keyed(k),
         KeyAnswer::Refused(r) => refused(r),
+    }
+}
+
+pub fn of_middle(a: MiddleAnswer) -> MiddleNumbers
+    ensures { λ n. ⌜ twiceOf n ≡ middleTold a ⌝ }
+{
+    match a {
+        MiddleAnswer::Twice(twice) => MiddleNumbers { number: 0, twice },
+        MiddleAnswer::Refused(r) => MiddleNumbers {
+            number: of_refusal(r),
+            twice: 0,
+        },
     }
 }
 

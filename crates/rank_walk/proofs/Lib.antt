@@ -1,2 +1,3 @@
 pub mod Seeking
 pub mod Ranked
+pub mod Middles

@@ -59,8 +59,14 @@ impl Text {
     pub fn decimal(self, n: u32) -> Text
         ensures { λ r. ⌜ GrownByDecimal self n r ⌝ }
     {
+        self.decimal_u64(n as u64)
+    }
+
+    pub fn decimal_u64(self, n: u64) -> Text
+        ensures { λ r. ⌜ GrownByDecimal self n r ⌝ }
+    {
         let mut digits = [0u8; 20];
-        let k = io::decimal(n as u64, &mut digits);
+        let k = io::decimal(n, &mut digits);
         self.bytes(&digits[..k])
     }
 

@@ -90,7 +90,8 @@ Reporting =
     → Gives (reportOf (joined pieces)) words desk
 
 -- ---- request K1 in one record ----
--- "The input lines `0 10`, `0 20`, `0 20`, `0 30`, `2 5` give the lines `0 4 10 30 10 20 20`, `1 0`, `skipped 1`."
+-- "The input lines `0 10`, `0 20`, `0 20`, `0 30`, `2 5` give the lines `0 4 10 30 10 20 20`, `1 0`, `skipped 1`." Request K2: "the report prints the
+-- doubled figure for q = 2": the first line is now `0 4 10 30 10 40 20`.
 abbrev pub fiveLines : List ℕ
 fiveLines =
     48 ∷ 32 ∷ 49 ∷ 48 ∷ 10 ∷
@@ -101,7 +102,7 @@ fiveLines =
 
 abbrev pub threeLines : List ℕ
 threeLines =
-    48 ∷ 32 ∷ 52 ∷ 32 ∷ 49 ∷ 48 ∷ 32 ∷ 51 ∷ 48 ∷ 32 ∷ 49 ∷ 48 ∷ 32 ∷ 50 ∷ 48 ∷ 32 ∷ 50 ∷ 48 ∷ 10 ∷
+    48 ∷ 32 ∷ 52 ∷ 32 ∷ 49 ∷ 48 ∷ 32 ∷ 51 ∷ 48 ∷ 32 ∷ 49 ∷ 48 ∷ 32 ∷ 52 ∷ 48 ∷ 32 ∷ 50 ∷ 48 ∷ 10 ∷
     49 ∷ 32 ∷ 48 ∷ 10 ∷
     115 ∷ 107 ∷ 105 ∷ 112 ∷ 112 ∷ 101 ∷ 100 ∷ 32 ∷ 49 ∷ 10 ∷ []
 

@@ -5,15 +5,17 @@ use mathlib.Core.Bool.{Bool, true, false, false≢true, cond}
 use mathlib.Core.List.{List}
 use native.Mathlib.Omega.{arith}
 use Rattle.model.specs.Calls.{Call, Answer, Promise, CheckPromise, SetUpPromise}
-use Rattle.answers.specs.Told.{searchTold, keyTold, plainTold}
+use Rattle.answers.specs.Told.{searchTold, keyTold, middleTold, plainTold}
 use Rattle.answers.specs.declared.SearchAnswer.{SearchAnswer}
 use Rattle.answers.specs.declared.SearchAnswer.the-variants.{Found, Missing, Beyond, Refused}
 use Rattle.answers.specs.declared.KeyAnswer.{KeyAnswer}
 use Rattle.answers.specs.declared.KeyAnswer.the-variants.{Is, Refused as RefusedKey}
+use Rattle.answers.specs.declared.MiddleAnswer.{MiddleAnswer}
 use Rattle.answers.specs.declared.PlainAnswer.{PlainAnswer}
 use Rattle.answers.specs.declared.PlainAnswer.the-variants.{Accepted, Refused as RefusedPlain}
-use Rattle.numbers.specs.Read.{answerOf}
+use Rattle.numbers.specs.Read.{answerOf, twiceOf}
 use Rattle.numbers.specs.declared.Numbers.{Numbers}
+use Rattle.numbers.specs.declared.MiddleNumbers.{MiddleNumbers}
 use Rattle.ska_c.specs.Returned.{alone, withKey, withPlace, Verdict}
 
 -- ---- what an answer's other numbers are: 0 ----
@@ -42,6 +44,9 @@ module _ {c : Call} {w u : List ℕ} where
 
   pub key-returned : (a : KeyAnswer) {n : Numbers} → answerOf n ≡ keyTold a → Promise c w u (keyTold a) → Promise c w u (withKey (n .number) (n .key))
   key-returned a e p = told-alike (ap (λ (r : Answer). withKey (r .number) (r .key)) e ∙ key-told a) p
+
+  pub middle-returned : (a : MiddleAnswer) {n : MiddleNumbers} → twiceOf n ≡ middleTold a → Promise c w u (middleTold a) → Promise c w u (withKey (n .number) (n .twice))
+  middle-returned a e p = told-alike e p
 
   pub plain-returned : (a : PlainAnswer) {n : ℕ} → n ≡ plainTold a .number → Promise c w u (plainTold a) → Promise c w u (alone n)
   plain-returned a e p = told-alike (ap alone e ∙ plain-told a) p

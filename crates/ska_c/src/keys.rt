@@ -33,11 +33,11 @@ pub extern "C" fn ska_read(w: &[u32], list: u32, index: u32, key: &mut u32) -> u
 }
 
 #[no_mangle]
-pub extern "C" fn ska_middle(w: &[u32], list: u32, key: &mut u32) -> u32
-    ensures { λ r. ⌜ Promise (middle list) (now (w .entry)) (now (w .entry)) (withKey r (now (key .exit))) ⌝ }
+pub extern "C" fn ska_middle(w: &[u32], list: u32, twice: &mut u64) -> u32
+    ensures { λ r. ⌜ Promise (middle list) (now (w .entry)) (now (w .entry)) (withKey r (now (twice .exit))) ⌝ }
 {
-    let n = numbers::of_key(ska::middle(w, Slot(list)));
-    *key = n.key;
+    let n = numbers::of_middle(ska::middle(w, Slot(list)));
+    *twice = n.twice;
     n.number
 }
 

@@ -1,7 +1,8 @@
 // The public calls that only read: search, read at an index, middle. Any words, any arguments: each checks the arena and then asks `checked_reading`.
 ghost use Rattle.model.specs.Calls.{search, read, middle, Promise};
-ghost use Rattle.answers.specs.Told.{keyTold, searchTold};
+ghost use Rattle.answers.specs.Told.{keyTold, middleTold, searchTold};
 use answers::KeyAnswer;
+use answers::MiddleAnswer;
 use answers::Refusal;
 use answers::SearchAnswer;
 use arena::Index;
@@ -27,12 +28,12 @@ pub fn read(w: &[u32], list: Slot, i: Index) -> KeyAnswer
     KeyAnswer::Refused(Refusal::Broken)
 }
 
-// The key at index floor((length - 1) / 2).
-pub fn middle(w: &[u32], list: Slot) -> KeyAnswer
-    ensures { λ r. ⌜ Promise (middle (list .0)) (now (w .entry)) (now (w .entry)) (keyTold r) ⌝ }
+// Twice the median: the sum of the keys at indexes floor((length - 1) / 2) and floor(length / 2).
+pub fn middle(w: &[u32], list: Slot) -> MiddleAnswer
+    ensures { λ r. ⌜ Promise (middle (list .0)) (now (w .entry)) (now (w .entry)) (middleTold r) ⌝ }
 {
     if arena_check::check(w) {
         return checked_reading::middle(w, list);
     }
-    KeyAnswer::Refused(Refusal::Broken)
+    MiddleAnswer::Refused(Refusal::Broken)
 }

@@ -48,7 +48,7 @@ returns-3 c =
     let there = rw (m .m .given .1) at (named .one-list .ensures) in
     let n = length (nodes (start .args .w .now) (start .args .list .0)) in
     accepts (start .pre) (before-end there 0 n (omega arith))
-    (ap keyed (c .middle .ensures)) (start .pre .words)
+    (ap keyed (c .middle .ensures .0)) (start .pre .words)
 
 pub middle-spec : {M : Type 1} → statement M
 middle-spec =

@@ -35,7 +35,7 @@ returns-2 : tie.Need-returns-2
 returns-2 c =
     let (asked, passed, named, m) : tie.After-check × tie.Else1 × tie.After-one-list × tie.After-m = search in
     let listed = rw (m .m .given .1) at (named .one-list .ensures) in
-    whole (asked .check .ensures) (not-false _ (passed .if1 .left)) (ap Are (c .of .ensures) ∙ there listed)
+    whole (asked .check .ensures) (not-false _ (passed .if1 .left)) (ap Are (c .of .ensures .0) ∙ there listed)
 
 returns-3 : tie.Need-returns-3
 returns-3 c =

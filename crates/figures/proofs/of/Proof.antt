@@ -12,7 +12,7 @@ length-requires c κs = search needs
 returns : tie.Need-returns
 returns c =
     let (start, n) : tie.Start × tie.After-length = search in
-    none (nodes (start .args .w .now) (start .args .list .0)) (omega (arith, n .length .ensures))
+    (none (nodes (start .args .w .now) (start .args .list .0)) (omega (arith, n .length .ensures)), omega arith)
 
 read-requires : tie.Need-read-requires
 read-requires c κs = search needs
@@ -26,14 +26,18 @@ read-requires-2 c κs = search needs
 quarter-requires : tie.Need-quarter-requires
 quarter-requires c κs = search needs
 
+middle-requires : tie.Need-middle-requires
+middle-requires c κs =
+    let (start, n, some) : tie.Start × tie.After-length × tie.Else1 = search in
+    (start .pre, omega (arith, n .length .ensures, some .if1 .left))
+
 quarter-requires-2 : tie.Need-quarter-requires-2
 quarter-requires-2 c κs = search needs
 
-quarter-requires-3 : tie.Need-quarter-requires-3
-quarter-requires-3 c κs = search needs
-
 returns-2 : tie.Need-returns-2
-returns-2 c = cc
+returns-2 c =
+    let twice : tie.After-middle = search in
+    (cc, twice .middle .ensures .1)
 
 pub of-spec : {M : Type 1} → statement M
 of-spec =
@@ -45,6 +49,6 @@ of-spec =
     sub-t12
     read-requires-2
     quarter-requires
+    middle-requires
     quarter-requires-2
-    quarter-requires-3
     returns-2)

@@ -12,7 +12,7 @@ byte-requires c κs = search needs
 decimal-requires : tie.Need-decimal-requires
 decimal-requires c κs =
     let start : tie.Start = search in
-    omega (arith, ten (start .args .n) (start .fits .n .fits))
+    omega (arith, ten (start .args .n) (start .pre .1))
 
 same-length : tie.Need-same-length
 same-length c = search needs
@@ -22,7 +22,7 @@ returns c =
     let start : tie.Start = search in
     let space : tie.After-byte = search in
     let told : tie.After-decimal = search in
-    (both (space .byte .ensures) (both (told .decimal .ensures) (nothing _ _)), omega (arith, ten (start .args .n) (start .fits .n .fits)))
+    (both (space .byte .ensures) (both (told .decimal .ensures) (nothing _ _)), omega (arith, ten (start .args .n) (start .pre .1)))
 
 pub number-spec : {M : Type 1} → statement M
 number-spec = tie.close (tie.spec byte-requires decimal-requires same-length returns)

@@ -3,6 +3,7 @@ use Prim.Native.Nat.{_+_, _*_, _-_, _≤_}
 use mathlib.Core.Path.{_≡_}
 use lib.ListN.{length, take}
 use lib.Seq.{take-all}
+use native.Mathlib.Omega.{arith}
 use borrow.Author.Needs.{needs}
 use Rattle.figures_text.specs.Texts.{spaced, Put}
 use Rattle.figures_text.proofs.Putting.{nothing, both, one-more}
@@ -27,8 +28,15 @@ mul-number c = search needs
 shared-slice-read-number : tie.Need-shared-slice-read-number Inv-loop μ-loop
 shared-slice-read-number c = search needs
 
+cast-number : tie.Need-cast-number Inv-loop μ-loop
+cast-number c =
+    let at : tie.At-loop Inv-loop μ-loop = search in
+    omega (arith, c .shared-slice-known2 .given (at .loop .i))
+
 number-requires : tie.Need-number-requires Inv-loop μ-loop
-number-requires c κs = search needs
+number-requires c κs =
+    let at : tie.At-loop Inv-loop μ-loop = search in
+    (search needs, omega (arith, c .shared-slice-known2 .given (at .loop .i)))
 
 add-i : tie.Need-add-i Inv-loop μ-loop
 add-i c = search needs
@@ -66,6 +74,7 @@ numbers-spec =
     loop-holds
     mul-number
     shared-slice-read-number
+    cast-number
     number-requires
     add-i
     loop-less

@@ -35,8 +35,10 @@ of-requires c κs =
 
 line-requires : tie.Need-line-requires Inv-loop μ-loop
 line-requires c κs =
-    let (start, loop, turn) : Start × Loop × Turn = search in
-    omega (arith, loop .loop .inv .0 .low, loop .loop .inv .2, start .pre .0 .sizes .lists-most, lists-are (start .args .w .now), start .pre .2, turn .loop-test .taken)
+    let (start, loop, turn, figures) : Start × Loop × Turn × tie.After-of Inv-loop μ-loop = search in (
+      omega (arith, loop .loop .inv .0 .low, loop .loop .inv .2, start .pre .0 .sizes .lists-most, lists-are (start .args .w .now), start .pre .2, turn .loop-test .taken),
+      figures .of .ensures .1,
+    )
 
 add-list : tie.Need-add-list Inv-loop μ-loop
 add-list c = search needs
@@ -50,7 +52,7 @@ loop-again c =
       one-lined
           (omega (arith, lists-are (start .args .w .now)))
           (loop .loop .inv .0)
-          (rw (figures .of .ensures) at (line .line .ensures .0))
+          (rw (figures .of .ensures .0) at (line .line .ensures .0))
           (line .line .ensures .1),
       search needs,
       cc,

@@ -1,21 +1,72 @@
--- `rank_walk::index::middle` meets its contract: the head's first word is the length, from which the index is computed.
+-- `rank_walk::index::middle` meets its contract: the head's first word is the length, from which the lower index is computed and whether there is an upper one.
+use mathlib.Core.Path.{_∙_}
+use native.Mathlib.Omega.{arith}
 use borrow.Author.Needs.{needs}
+use Rattle.model.specs.Arena.{keyColumn, nextColumn}
+use Rattle.walk.proofs.Standing.{cell-here}
+use Rattle.rank_walk.proofs.Middles.{Halfway, at-lower, at-upper, odd, even}
 use Rattle.rank_walk.proofs.index.middle.Statement.{statement}
 use Rattle.rank_walk.proofs.index.middle.Tie as tie
+
+halfway : (s : tie.After-at) →
+    let (start, n) : tie.Start × tie.After-length = search in
+    Halfway (start .args .w .now) (start .args .m) (start .args .list .0) (n .length .result) (s .at .result .0)
+halfway s =
+    let (start, n) : tie.Start × tie.After-length = search in
+    record { listed = start .pre .0; count = n .length .ensures; some = omega (arith, n .length .ensures, start .pre .1); there = s .at .ensures }
 
 length-requires : tie.Need-length-requires
 length-requires c κs = search needs
 
-sub-t5 : tie.Need-sub-t5
-sub-t5 c = search needs
+sub-t9 : tie.Need-sub-t9
+sub-t9 c = search needs
 
-read-requires : tie.Need-read-requires
-read-requires c κs = search needs
+at-requires : tie.Need-at-requires
+at-requires c κs = search needs
+
+key-at-requires : tie.Need-key-at-requires
+key-at-requires c κs =
+    let s : tie.After-at = search in
+    cell-here (at-lower (halfway s)) keyColumn (omega arith)
+
+sum-requires : tie.Need-sum-requires
+sum-requires c κs = search needs
 
 returns : tie.Need-returns
 returns c =
-    let (start, n) : tie.Start × tie.After-length = search in
-    rw (← n .length .ensures) (c .read .ensures)
+    let (s, k, o) : tie.After-at × tie.After-key-at × tie.Then1 = search in
+    (c .sum .ensures .0 ∙ odd (halfway s) (o .if1 .taken) (k .key-at .ensures), c .sum .ensures .1)
+
+cell-requires : tie.Need-cell-requires
+cell-requires c κs =
+    let s : tie.After-at = search in
+    cell-here (at-lower (halfway s)) nextColumn (omega arith)
+
+key-at-requires-2 : tie.Need-key-at-requires-2
+key-at-requires-2 c κs =
+    let (s, o) : tie.After-at × tie.Else1 = search in
+    cell-here (at-upper (halfway s) (o .if1 .left) (c .cell .ensures)) keyColumn (omega arith)
+
+sum-requires-2 : tie.Need-sum-requires-2
+sum-requires-2 c κs = search needs
+
+returns-2 : tie.Need-returns-2
+returns-2 c =
+    let (s, k, o) : tie.After-at × tie.After-key-at × tie.Else1 = search in
+    let (next, j) : tie.After-cell × tie.After-key-at2 = search in
+    (c .sum2 .ensures .0 ∙ even (halfway s) (o .if1 .left) (next .cell .ensures) (k .key-at .ensures) (j .key-at2 .ensures), c .sum2 .ensures .1)
 
 pub middle-spec : {M : Type 1} → statement M
-middle-spec = tie.close (tie.spec length-requires sub-t5 read-requires returns)
+middle-spec =
+    tie.close
+    (tie.spec
+    length-requires
+    sub-t9
+    at-requires
+    key-at-requires
+    sum-requires
+    returns
+    cell-requires
+    key-at-requires-2
+    sum-requires-2
+    returns-2)

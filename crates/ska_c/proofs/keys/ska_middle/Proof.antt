@@ -1,5 +1,5 @@
 -- `ska_c::keys::ska_middle` keeps the promise of the call.
-use Rattle.ska_c.proofs.Telling.{key-returned}
+use Rattle.ska_c.proofs.Telling.{middle-returned}
 use borrow.Author.Needs.{needs}
 use Rattle.ska_c.proofs.keys.ska_middle.Statement.{statement}
 use Rattle.ska_c.proofs.keys.ska_middle.Tie as tie
@@ -7,13 +7,13 @@ use Rattle.ska_c.proofs.keys.ska_middle.Tie as tie
 middle-requires : tie.Need-middle-requires
 middle-requires c κs = search needs
 
-of-key-requires : tie.Need-of-key-requires
-of-key-requires c κs = search needs
+of-middle-requires : tie.Need-of-middle-requires
+of-middle-requires c κs = search needs
 
 returns : tie.Need-returns
 returns c =
-    let (done, n) : tie.After-middle × tie.After-of-key = search in
-    key-returned (done .middle .result) (n .of-key .ensures) (done .middle .ensures)
+    let (done, n) : tie.After-middle × tie.After-of-middle = search in
+    middle-returned (done .middle .result) (n .of-middle .ensures) (done .middle .ensures)
 
 pub ska-middle-spec : {M : Type 1} → statement M
-ska-middle-spec = tie.close (tie.spec middle-requires of-key-requires returns)
+ska-middle-spec = tie.close (tie.spec middle-requires of-middle-requires returns)

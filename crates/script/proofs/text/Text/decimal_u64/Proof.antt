@@ -1,7 +1,7 @@
--- `script::text::Text::decimal` meets its contract: the text grows by the digits that `io::decimal` spells.
+-- `script::text::Text::decimal_u64` meets its contract: the text grows by the digits that `io::decimal` spells.
 use borrow.Author.Needs.{needs}
-use Rattle.script.proofs.text.Text.decimal.Statement.{statement}
-use Rattle.script.proofs.text.Text.decimal.Tie as tie
+use Rattle.script.proofs.text.Text.decimal_u64.Statement.{statement}
+use Rattle.script.proofs.text.Text.decimal_u64.Tie as tie
 
 decimal-requires : tie.Need-decimal-requires
 decimal-requires c κs = search needs
@@ -20,8 +20,8 @@ returns c =
     let spelt : tie.After-decimal = search in
     record { places = spelt .decimal .result; fewest = spelt .decimal .ensures .1 .0; grown = rw (spelt .decimal .ensures .1 .1) at (c .bytes .ensures) }
 
-pub decimal-spec : {M : Type 1} → statement M
-decimal-spec =
+pub decimal-u64-spec : {M : Type 1} → statement M
+decimal-u64-spec =
     tie.close
     (tie.spec
     decimal-requires
