@@ -106,7 +106,8 @@ uint32_t ska_split_key(uint32_t *w, size_t n, uint32_t from, uint32_t to, uint32
    Refusals 1, 3, 4. */
 uint32_t ska_append(uint32_t *w, size_t n, uint32_t a, uint32_t b);
 
-/* Twice the median, in *twice: the sum of the keys at indexes (length - 1) / 2 and length / 2, both rounded down. It can pass 32 bits.
+/* Twice the median, in *twice: the sum of the keys at indexes (length - 1) / 2 and length / 2, both rounded down. It can pass
+   4294967295, so it has 64 bits.
    Refusals 1, 3, 8. */
 uint32_t ska_middle(const uint32_t *w, size_t n, uint32_t list, uint64_t *twice);
 

@@ -15,7 +15,7 @@ refusalOf n =
     (cond (eqb n 4) SameList
     (cond (eqb n 5) TooHigh (cond (eqb n 6) Full (cond (eqb n 7) NotEmpty (cond (eqb n 8) PastEnd NoKey))))))
 
-refusal-back : (r : Refusal) → refusalOf (numberOf r) ≡ r
+pub refusal-back : (r : Refusal) → refusalOf (numberOf r) ≡ r
 refusal-back Broken = refl
 refusal-back NoList = refl
 refusal-back SameList = refl

@@ -5,6 +5,8 @@ use mathlib.Core.Path.{_≡_, refl, sym, ap, _∙_}
 use mathlib.Core.Bool.{cond}
 use mathlib.Core.List.{List}
 use lib.Dec.{eqb}
+use borrow.Author.Tests.{ne-eqb}
+use native.Mathlib.Omega.{arith}
 use Rattle.model.specs.Calls.{Call, Answer, Promise, SetUpPromise}
 use Rattle.model.proofs.Unique.{call-unique, set-up-unique}
 use Rattle.link.specs.Distances.{Told, told}
@@ -13,9 +15,9 @@ use Rattle.link.specs.declared.Distance.the-variants.{Is as IsDistance, Invalid
 use Rattle.setup.specs.Bare.{numberOf as setupNumber}
 use Rattle.setup.specs.declared.Setup.{Setup}
 use Rattle.setup.specs.declared.Setup.the-variants.{Done, Wrong}
-use Rattle.answers.specs.Told.{searchTold, keyTold, middleTold, plainTold}
-use Rattle.answers.proofs.Numbers.{refusalOf}
-use Rattle.answers.specs.declared.Refusal.the-variants.{Broken, NoList, SameList, TooHigh, Full, NotEmpty, PastEnd, NoKey}
+use Rattle.answers.specs.Told.{numberOf, searchTold, keyTold, middleTold, plainTold}
+use Rattle.answers.proofs.Numbers.{refusalOf, refusal-back, below-ten}
+use Rattle.answers.specs.declared.Refusal.{Refusal}
 use Rattle.answers.specs.declared.SearchAnswer.{SearchAnswer}
 use Rattle.answers.specs.declared.SearchAnswer.the-variants.{Found, Missing, Beyond, Refused}
 use Rattle.answers.specs.declared.KeyAnswer.{KeyAnswer}
@@ -47,51 +49,27 @@ distanceOf x = cond (eqb (x .number) 0) (IsDistance (x .distance)) (cond (eqb (x
 abbrev setupOf : ℕ → Setup
 setupOf n = cond (eqb n 0) Done Wrong
 
+-- a refusal's number is not 0, and gives it back
+refused-back : {A : Type 0} (accepted : A) (tells : Refusal → A) (r : Refusal) → cond (eqb (numberOf r) 0) accepted (tells (refusalOf (numberOf r))) ≡ tells r
+refused-back accepted tells r = rw (ne-eqb (numberOf r) 0 (λ e. omega (arith, below-ten r, e))) (ap tells (refusal-back r))
+
 search-back : (a : SearchAnswer) → searchOf (searchTold a) ≡ a
 search-back (Found i n) = refl
 search-back (Missing i n) = refl
 search-back (Beyond n) = refl
-search-back (Refused Broken) = refl
-search-back (Refused NoList) = refl
-search-back (Refused SameList) = refl
-search-back (Refused TooHigh) = refl
-search-back (Refused Full) = refl
-search-back (Refused NotEmpty) = refl
-search-back (Refused PastEnd) = refl
-search-back (Refused NoKey) = refl
+search-back (Refused r) = rw (ne-eqb (numberOf r) 10 (λ e. omega (arith, below-ten r, e))) (refused-back _ Refused r)
 
 key-back : (a : KeyAnswer) → keyOf (keyTold a) ≡ a
 key-back (Is k) = refl
-key-back (RefusedKey Broken) = refl
-key-back (RefusedKey NoList) = refl
-key-back (RefusedKey SameList) = refl
-key-back (RefusedKey TooHigh) = refl
-key-back (RefusedKey Full) = refl
-key-back (RefusedKey NotEmpty) = refl
-key-back (RefusedKey PastEnd) = refl
-key-back (RefusedKey NoKey) = refl
+key-back (RefusedKey r) = refused-back _ RefusedKey r
 
 middle-back : (a : MiddleAnswer) → twiceOf (middleTold a) ≡ a
 middle-back (Twice n) = refl
-middle-back (RefusedMiddle Broken) = refl
-middle-back (RefusedMiddle NoList) = refl
-middle-back (RefusedMiddle SameList) = refl
-middle-back (RefusedMiddle TooHigh) = refl
-middle-back (RefusedMiddle Full) = refl
-middle-back (RefusedMiddle NotEmpty) = refl
-middle-back (RefusedMiddle PastEnd) = refl
-middle-back (RefusedMiddle NoKey) = refl
+middle-back (RefusedMiddle r) = refused-back _ RefusedMiddle r
 
 plain-back : (a : PlainAnswer) → plainOf (plainTold a) ≡ a
 plain-back Accepted = refl
-plain-back (RefusedPlain Broken) = refl
-plain-back (RefusedPlain NoList) = refl
-plain-back (RefusedPlain SameList) = refl
-plain-back (RefusedPlain TooHigh) = refl
-plain-back (RefusedPlain Full) = refl
-plain-back (RefusedPlain NotEmpty) = refl
-plain-back (RefusedPlain PastEnd) = refl
-plain-back (RefusedPlain NoKey) = refl
+plain-back (RefusedPlain r) = refused-back _ RefusedPlain r
 
 distance-back : (a : Distance) → distanceOf (told a) ≡ a
 distance-back (IsDistance d) = refl
