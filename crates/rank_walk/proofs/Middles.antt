@@ -17,21 +17,15 @@ use Rattle.walk.proofs.Standing.{at-rank, key-here}
 use Rattle.rank_walk.proofs.Seeking.{steps}
 
 -- slot s is at index floor((n - 1) / 2) of list a, which has n keys
-pub record Halfway (w : List ℕ) (m a n s : ℕ) : Type 0 where
-  pub listed : Listed w m a
-  pub count : n ≡ length (nodes w a)
-  pub some : 0 < n
-  pub there : s ≡ slotAt a (nodes w a) (suc ((n - 1) / 2))
-
-module _ {w : List ℕ} {m a n s : ℕ} (h : Halfway w m a n s) where
+module _ {w : List ℕ} {m a n s : ℕ} (g : Listed w m a × (0 < length (nodes w a))) (count : n ≡ length (nodes w a)) (there : s ≡ slotAt a (nodes w a) (suc ((n - 1) / 2))) where
   abbrev xs : List Node
   xs = nodes w a
 
   pub at-lower : Standing w m a (length xs) 0 s (suc ((n - 1) / 2))
-  at-lower = at-rank _ (h .listed) (omega (arith, h .count, h .some)) (h .there)
+  at-lower = at-rank _ (g .0) (omega (arith, g .1)) there
 
   pub at-upper : n % 2 ≢ 1 → {to : ℕ} → to ≡ cellAt m w s nextColumn → Standing w m a (length xs) 0 to (suc (n / 2))
-  at-upper o {to} e = steps at-lower (omega (arith, h .count, h .some)) to _ e (omega (arith, h .some))
+  at-upper o {to} e = steps at-lower (omega (arith, g .1)) to _ e (omega (arith, g .1))
 
   lower-is : {k : ℕ} → k ≡ cellAt m w s keyColumn → k ≡ keyAt xs ((n - 1) / 2)
   lower-is e = e ∙ key-here at-lower _ refl
@@ -40,9 +34,9 @@ module _ {w : List ℕ} {m a n s : ℕ} (h : Halfway w m a n s) where
   odd o e =
       let one : (n - 1) / 2 ≡ n / 2 = omega arith in
       let upper-is = lower-is e ∙ ap (keyAt xs) one in
-      rw (← h .count) (λ i. lower-is e i + upper-is i)
+      rw (← count) (λ i. lower-is e i + upper-is i)
 
   pub even : n % 2 ≢ 1 → {to k j : ℕ} → to ≡ cellAt m w s nextColumn → k ≡ cellAt m w s keyColumn → j ≡ cellAt m w to keyColumn → k + j ≡ middleOf xs
   even o t e f =
       let upper-is = f ∙ key-here (at-upper o t) _ refl in
-      rw (← h .count) (λ i. lower-is e i + upper-is i)
+      rw (← count) (λ i. lower-is e i + upper-is i)

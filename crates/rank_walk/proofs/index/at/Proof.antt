@@ -24,7 +24,7 @@ returns c =
     let a = start .args .list .0 in
     let xs = nodes (start .args .w .now) a in
     let there : rank .from-index .result .0 ≡ suc (start .args .i .0) = omega (arith, rank .from-index .ensures) in
-    c .reach .ensures ∙ ap (slotAt a xs) there
+    _∙_ {b = slotAt a xs (rank .from-index .result .0)} (c .reach .ensures) (ap (slotAt a xs) there)
 
 pub at-spec : {M : Type 1} → statement M
 at-spec = tie.close (tie.spec from-index-requires reach-requires returns)

@@ -4,16 +4,9 @@ use native.Mathlib.Omega.{arith}
 use borrow.Author.Needs.{needs}
 use Rattle.model.specs.Arena.{keyColumn, nextColumn}
 use Rattle.walk.proofs.Standing.{cell-here}
-use Rattle.rank_walk.proofs.Middles.{Halfway, at-lower, at-upper, odd, even}
+use Rattle.rank_walk.proofs.Middles.{at-lower, at-upper, odd, even}
 use Rattle.rank_walk.proofs.index.middle.Statement.{statement}
 use Rattle.rank_walk.proofs.index.middle.Tie as tie
-
-halfway : (s : tie.After-at) →
-    let (start, n) : tie.Start × tie.After-length = search in
-    Halfway (start .args .w .now) (start .args .m) (start .args .list .0) (n .length .result) (s .at .result .0)
-halfway s =
-    let (start, n) : tie.Start × tie.After-length = search in
-    record { listed = start .pre .0; count = n .length .ensures; some = omega (arith, n .length .ensures, start .pre .1); there = s .at .ensures }
 
 length-requires : tie.Need-length-requires
 length-requires c κs = search needs
@@ -26,35 +19,36 @@ at-requires c κs = search needs
 
 key-at-requires : tie.Need-key-at-requires
 key-at-requires c κs =
-    let s : tie.After-at = search in
-    cell-here (at-lower (halfway s)) keyColumn (omega arith)
+    let (start, n, s) : tie.Start × tie.After-length × tie.After-at = search in
+    cell-here (at-lower (start .pre) (n .length .ensures) (s .at .ensures)) keyColumn (omega arith)
 
 sum-requires : tie.Need-sum-requires
 sum-requires c κs = search needs
 
 returns : tie.Need-returns
 returns c =
-    let (s, k, o) : tie.After-at × tie.After-key-at × tie.Then1 = search in
-    (c .sum .ensures .0 ∙ odd (halfway s) (o .if1 .taken) (k .key-at .ensures), c .sum .ensures .1)
+    let (start, n, s) : tie.Start × tie.After-length × tie.After-at = search in
+    let (k, o) : tie.After-key-at × tie.Then1 = search in
+    (c .sum .ensures .0 ∙ odd (start .pre) (n .length .ensures) (s .at .ensures) (o .if1 .taken) (k .key-at .ensures), c .sum .ensures .1)
 
 cell-requires : tie.Need-cell-requires
 cell-requires c κs =
-    let s : tie.After-at = search in
-    cell-here (at-lower (halfway s)) nextColumn (omega arith)
+    let (start, n, s) : tie.Start × tie.After-length × tie.After-at = search in
+    cell-here (at-lower (start .pre) (n .length .ensures) (s .at .ensures)) nextColumn (omega arith)
 
 key-at-requires-2 : tie.Need-key-at-requires-2
 key-at-requires-2 c κs =
-    let (s, o) : tie.After-at × tie.Else1 = search in
-    cell-here (at-upper (halfway s) (o .if1 .left) (c .cell .ensures)) keyColumn (omega arith)
+    let (start, n, s, o) : tie.Start × tie.After-length × tie.After-at × tie.Else1 = search in
+    cell-here (at-upper (start .pre) (n .length .ensures) (s .at .ensures) (o .if1 .left) (c .cell .ensures)) keyColumn (omega arith)
 
 sum-requires-2 : tie.Need-sum-requires-2
 sum-requires-2 c κs = search needs
 
 returns-2 : tie.Need-returns-2
 returns-2 c =
-    let (s, k, o) : tie.After-at × tie.After-key-at × tie.Else1 = search in
-    let (next, j) : tie.After-cell × tie.After-key-at2 = search in
-    (c .sum2 .ensures .0 ∙ even (halfway s) (o .if1 .left) (next .cell .ensures) (k .key-at .ensures) (j .key-at2 .ensures), c .sum2 .ensures .1)
+    let (start, n, s) : tie.Start × tie.After-length × tie.After-at = search in
+    let (k, o, next, j) : tie.After-key-at × tie.Else1 × tie.After-cell × tie.After-key-at2 = search in
+    (c .sum2 .ensures .0 ∙ even (start .pre) (n .length .ensures) (s .at .ensures) (o .if1 .left) (next .cell .ensures) (k .key-at .ensures) (j .key-at2 .ensures), c .sum2 .ensures .1)
 
 pub middle-spec : {M : Type 1} → statement M
 middle-spec =
