@@ -62,5 +62,5 @@ pub fn middle(w: &[u32], list: Slot) -> MiddleAnswer
     if rank_walk::length(w, m, list) == 0 {
         return MiddleAnswer::Refused(Refusal::PastEnd);
     }
-    MiddleAnswer::Twice(rank_walk::middle(w, m, list))
+    MiddleAnswer::Twice(middle::middle(w, m, list))
 }

@@ -53,7 +53,7 @@ pub fn of(w: &[u32], m: usize, list: Slot) -> Figures
     let smallest = rank_walk::read(w, m, list, Index(0));
     let largest = rank_walk::read(w, m, list, Index(n - 1));
     let lower = quarter(w, m, list, n, 1);
-    let middle = rank_walk::middle(w, m, list);
+    let middle = middle::middle(w, m, list);
     let upper = quarter(w, m, list, n, 3);
     Figures {
         count: n,

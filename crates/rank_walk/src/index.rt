@@ -1,9 +1,8 @@
 // Reading by rank: the walk without precursors.
 ghost use mathlib.Core.Path.{_≡_};
-ghost use Prim.Native.Nat.{suc, _+_, _*_, _≤_, _<_};
+ghost use Prim.Native.Nat.{suc, _<_};
 ghost use lib.ListN.{length};
 ghost use Rattle.model.specs.Nodes.{slotAt, keyAt};
-ghost use Rattle.model.specs.Lists.{middleOf};
 ghost use Rattle.model.specs.Passes.{nodes};
 ghost use Rattle.arena.specs.Owners.{Listed};
 ghost use Rattle.walk.specs.Standing.{Standing};
@@ -48,7 +47,7 @@ pub fn reach(w: &[u32], m: usize, list: Slot, from: Spot, level: usize, target: 
 }
 
 // The slot at an index, by a walk from the head.
-fn at(w: &[u32], m: usize, list: Slot, i: Index) -> Slot
+pub fn at(w: &[u32], m: usize, list: Slot, i: Index) -> Slot
     requires { ⌜ Listed (now w) m (list .0) × (i .0 < length (nodes (now w) (list .0))) ⌝ }
     ensures { λ r. ⌜ r .0 ≡ slotAt (list .0) (nodes (now (w .entry)) (list .0)) (suc (i .0)) ⌝ }
 {
@@ -66,27 +65,4 @@ pub fn read(w: &[u32], m: usize, list: Slot, i: Index) -> Key
 {
     let s = at(w, m, list, i);
     arena::key_at(w, m, s)
-}
-
-// The sum of two keys, which can pass 32 bits.
-fn sum(a: Key, b: Key) -> u64
-    ensures { λ r. ⌜ (r ≡ a + b) × (r ≤ 2 * 4294967295) ⌝ }
-{
-    a as u64 + b as u64
-}
-
-// Twice the median: the key at index floor((length - 1) / 2), and the next or, where the length is odd, the same again.
-pub fn middle(w: &[u32], m: usize, list: Slot) -> u64
-    requires { ⌜ Listed (now w) m (list .0) × (0 < length (nodes (now w) (list .0))) ⌝ }
-    ensures { λ r. ⌜ (r ≡ middleOf (nodes (now (w .entry)) (list .0))) × (r ≤ 2 * 4294967295) ⌝ }
-{
-    let n = length(w, m, list);
-    let s = at(w, m, list, Index((n - 1) / 2));
-    let lower = arena::key_at(w, m, s);
-    if n % 2 == 1 {
-        return sum(lower, lower);
-    }
-    let next = arena::cell(w, m, s, arena::NEXT);
-    let upper = arena::key_at(w, m, Slot(next));
-    sum(lower, upper)
 }

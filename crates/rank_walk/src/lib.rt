@@ -4,8 +4,8 @@ mod index_mut;
 
 use arena::Rank;
 use arena::Slot;
+pub use index::at;
 pub use index::length;
-pub use index::middle;
 pub use index::reach;
 pub use index::read;
 pub use index_mut::by_rank;

@@ -1,12 +1,12 @@
--- `rank_walk::index::middle` meets its contract: the head's first word is the length, from which the lower index is computed and whether there is an upper one.
+-- `middle::middle` meets its contract: the head's first word is the length, from which the lower index is computed and whether there is an upper one.
 use mathlib.Core.Path.{_∙_}
 use native.Mathlib.Omega.{arith}
 use borrow.Author.Needs.{needs}
 use Rattle.model.specs.Arena.{keyColumn, nextColumn}
 use Rattle.walk.proofs.Standing.{cell-here}
-use Rattle.rank_walk.proofs.Middles.{at-lower, at-upper, odd, even}
-use Rattle.rank_walk.proofs.index.middle.Statement.{statement}
-use Rattle.rank_walk.proofs.index.middle.Tie as tie
+use Rattle.middle.proofs.Middles.{at-lower, at-upper, odd, even}
+use Rattle.middle.proofs.middle.Statement.{statement}
+use Rattle.middle.proofs.middle.Tie as tie
 
 length-requires : tie.Need-length-requires
 length-requires c κs = search needs

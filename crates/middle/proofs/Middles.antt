@@ -1,5 +1,5 @@
 -- The two keys in the middle of a list, which are one where the length is odd: the walk to the lower one, and the step by next to the upper one.
--- Rests on Seeking and walk's Standing.
+-- Rests on walk's Standing and rank_walk's Seeking.
 use Prim.Native.Nat.{ℕ, suc, _+_, _-_, _/_, _%_, _<_}
 use mathlib.Core.Path.{_≡_, refl, ap, _∙_}
 use mathlib.Core.Logic.{_≢_}
