@@ -1,11 +1,13 @@
 // What the calls on an arena answer, a type for each kind of answer, and the rows of the table of refusals that ask for the lists a call names.
+#![tactic(auto)]
+
 mod lists;
 
 use arena::Index;
 pub use lists::{Named, one_list, two_lists};
 
 // Why a call on an arena is refused, but for the search's allowance.
-#[derive(Drop)]
+#[derive(Clone, Copy)]
 pub enum Refusal {
     Broken,
     NoList,
@@ -18,7 +20,7 @@ pub enum Refusal {
 }
 
 // What a search answers: an index or a place, with the tally; or the allowance that the tally is above.
-#[derive(Drop)]
+#[derive(Clone, Copy)]
 pub enum SearchAnswer {
     Found(Index, u32),
     Missing(Index, u32),
@@ -27,21 +29,21 @@ pub enum SearchAnswer {
 }
 
 // What a call that answers a key answers.
-#[derive(Drop)]
+#[derive(Clone, Copy)]
 pub enum KeyAnswer {
     Is(u32),
     Refused(Refusal),
 }
 
 // What the middle call answers: twice the median.
-#[derive(Drop)]
+#[derive(Clone, Copy)]
 pub enum MiddleAnswer {
     Twice(u64),
     Refused(Refusal),
 }
 
 // What a call that answers nothing more answers.
-#[derive(Drop)]
+#[derive(Clone, Copy)]
 pub enum PlainAnswer {
     Accepted,
     Refused(Refusal),

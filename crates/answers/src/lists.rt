@@ -6,7 +6,7 @@ use super::Refusal;
 use arena::Slot;
 
 // The lists named are there, in an arena of so many levels; or why not.
-#[derive(Drop)]
+#[derive(Clone, Copy)]
 pub enum Named {
     Levels(usize),
     Refused(Refusal),

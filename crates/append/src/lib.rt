@@ -1,4 +1,6 @@
 // Module 7 of document 01, append: b follows a, or precedes it, or its nodes are merged into a; "b ends empty."
+#![tactic(auto)]
+
 ghost use Rattle.std.specs.Prelude.{◌≡◌, ◌<◌, length};
 ghost use Rattle.model.specs.Closed.{do_join};
 ghost use Rattle.model.specs.Nodes.{key_at};

@@ -1,4 +1,6 @@
 // Module 2 of document 01: slots, ranks and indexes, and the words of an arena.
+#![tactic(auto)]
+
 ghost use Rattle.std.specs.Prelude.{◌≡◌, ◌+◌, ◌<◌};
 
 mod keys;
@@ -16,19 +18,19 @@ pub use links::{Link, distance_in, link_at, put_link, target_in};
 pub use words::{cell, header, last_slot, put, put_header, put2, word};
 
 // The number of a record; lists are named by their heads' slots, 0 to L - 1.
-#[derive(Drop)]
+#[derive(Clone, Copy)]
 pub struct Slot(pub u32);
 
 // A place in a list, counted from the head, which has rank 0.
-#[derive(Drop)]
+#[derive(Clone, Copy)]
 pub struct Rank(pub u32);
 
 // A place in a list, counted from the first node, which has index 0.
-#[derive(Drop)]
+#[derive(Clone, Copy)]
 pub struct Index(pub u32);
 
 // What a walk to an index notes (the crate's `Path`): of each level the precursor's slot and rank, and the slot just before the index.
-#[derive(Drop)]
+#[derive(Clone, Copy)]
 pub struct Path {
     pub slots: [Slot; 16],
     pub ranks: [Rank; 16],

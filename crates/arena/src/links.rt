@@ -11,7 +11,7 @@ use crate::layout::{FAR, LINK, TO, base_of};
 use crate::words::put;
 
 // "A link is target slot and distance; an absent one is N, 0."
-#[derive(Drop)]
+#[derive(Clone, Copy)]
 pub struct Link {
     pub target: Slot,
     pub distance: u32,

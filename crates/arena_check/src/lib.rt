@@ -1,5 +1,7 @@
 // The check of document 01: whether any words are an arena that passes. It goes once over the records, by the chains that they
 // make, and needs no memory but locals: docs/CHECK.md says how. One list's walk is list_check's.
+#![tactic(auto)]
+
 ghost use Rattle.model.specs.Calls.{CheckPromise};
 ghost use Rattle.arena.specs.Decides.{Decides};
 ghost use Rattle.arena_check.specs.Whole.{Whole};

@@ -1,4 +1,6 @@
 // Reads a call script (docs/CALLS.md) on standard input and writes one answer line for each call.
+#![tactic(auto)]
+
 mod acts;
 mod lines;
 
@@ -9,7 +11,7 @@ ghost use Rattle.calls.specs.Desks.{Ready};
 use script_line::{Line, Reading};
 
 // The line that is being read, how many words are lent, and whether the input may go on.
-#[derive(Drop)]
+#[derive(Clone, Copy)]
 pub struct Desk {
     pub line: Line,
     pub len: usize,
@@ -106,7 +108,7 @@ fn turn(words: &mut [u32], numbers: &mut [u32], desk: Desk) -> Desk
 }
 
 // The input is still open, and the turns that were taken.
-#[derive(Drop)]
+#[derive(Clone, Copy)]
 pub struct Ran {
     pub open: bool,
     pub turns: u64,

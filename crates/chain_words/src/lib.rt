@@ -1,4 +1,6 @@
 // The words beside the links that change where a node goes in or out: those of the list's chain, and the header's of the free chain.
+#![tactic(auto)]
+
 ghost use Rattle.std.specs.Prelude.{◌≡◌, ◌≤◌, length};
 ghost use Rattle.model.specs.Arena.{header_words};
 ghost use Rattle.chain_words.specs.Chain.{ChainLies, put_chain, put_free};
@@ -6,7 +8,7 @@ ghost use Rattle.chain_words.specs.Chain.{ChainLies, put_chain, put_free};
 use arena::{FIRST_FREE_WORD, FREE_WORD, HEIGHT, KEY, LAST, NEXT, Slot, put, put_header, put2};
 
 // What changes of a list's head.
-#[derive(Drop)]
+#[derive(Clone, Copy)]
 pub struct Head {
     pub slot: Slot,
     pub count: u32,
@@ -14,7 +16,7 @@ pub struct Head {
 }
 
 // The first words of a node's record, as a node's of a list or a free one's.
-#[derive(Drop)]
+#[derive(Clone, Copy)]
 pub struct Record {
     pub slot: Slot,
     pub key: u32,

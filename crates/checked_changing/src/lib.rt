@@ -1,5 +1,7 @@
 // The calls that change one list of an arena that has passed the check: insert, remove by key, remove at an index, levelling. Each asks the later
 // refusals in document 01's order, and then one operation.
+#![tactic(auto)]
+
 ghost use Rattle.std.specs.Prelude.{◌≡◌, length};
 ghost use Rattle.model.specs.Passes.{decode, Passes};
 ghost use Rattle.model.specs.Calls.{insert_key, remove_key, remove_index, level};

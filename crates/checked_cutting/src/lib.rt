@@ -1,5 +1,7 @@
 // The calls that cut and join lists of an arena that has passed the check: truncate, clear, split at an index, split by key, append. Each asks the
 // later refusals in document 01's order, and then one operation.
+#![tactic(auto)]
+
 ghost use Rattle.model.specs.Passes.{Passes};
 ghost use Rattle.model.specs.Calls.{truncate, clear, split_at, split_key, append_list};
 ghost use Rattle.answers.specs.Told.{plain_told};

@@ -1,5 +1,7 @@
 // The calls that only read an arena that has passed the check: search, read at an index, middle. Each asks the later refusals in document 01's
 // order, and then a walk.
+#![tactic(auto)]
+
 ghost use Rattle.std.specs.Prelude.{◌≡◌};
 ghost use Rattle.model.specs.Passes.{Passes};
 ghost use Rattle.model.specs.Calls.{search, read, middle};

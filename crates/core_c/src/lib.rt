@@ -1,5 +1,7 @@
 // The core functions by themselves, for measuring only: each asks the passed check and the accepted arguments of its caller, which the
 // public calls of `ska_c` never do. Lists, keys and indexes cross as plain numbers.
+#![tactic(auto)]
+
 ghost use Rattle.std.specs.Prelude.{◌≡◌, [], ◌≤◌, ◌<◌, length};
 ghost use Rattle.model.specs.Nodes.{key_at, smaller};
 ghost use Rattle.model.specs.Arena.{encode};

@@ -1,5 +1,7 @@
 // Breaks each clause of the check alone, then flips single bits all over: prints of each case its number, the clause, what was broken, and what the
 // check says.
+#![tactic(auto)]
+
 mod arenas;
 mod chains;
 mod flips;

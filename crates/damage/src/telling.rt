@@ -2,7 +2,7 @@
 use libc::STDOUT_FILENO;
 
 // The clauses of 'An arena passes the check', in its order.
-#[derive(Drop)]
+#[derive(Clone, Copy)]
 pub enum Clause {
     None,
     Length,
@@ -36,7 +36,7 @@ impl Clause {
 }
 
 // The number of the next case, and its clause.
-#[derive(Drop)]
+#[derive(Clone, Copy)]
 pub struct Line {
     number: u32,
     clause: Clause,

@@ -1,11 +1,13 @@
 // A decimal number that is read digit by digit.
+#![tactic(auto)]
+
 ghost use Rattle.std.specs.Prelude.{◌≡◌};
 ghost use Rattle.digits.specs.Digits.{is_digit};
 ghost use Rattle.digits.specs.Digits.{longer as with_digit};
 
 const LARGEST: u64 = 4294967295;
 
-#[derive(Drop)]
+#[derive(Clone, Copy)]
 pub enum Number {
     Is(u32),
     None,

@@ -18,7 +18,7 @@ pub const LISTS: u32 = 16;
 pub const BLOCKS: u32 = 16;
 
 // The indexes `first` and on, before `past`, of a list of `count` keys.
-#[derive(Drop)]
+#[derive(Clone, Copy)]
 pub struct Block {
     pub list: Slot,
     pub first: u32,
@@ -27,7 +27,7 @@ pub struct Block {
 }
 
 // The link that is held just before an index: it leaves the rank `from`, before the index, and leads `far` ranks on; 0 if there is none.
-#[derive(Drop)]
+#[derive(Clone, Copy)]
 pub struct Held {
     pub from: u32,
     pub far: u32,

@@ -4,7 +4,7 @@ ghost use Rattle.std.specs.Prelude.{◌≤◌, ◌<◌};
 use script::Text;
 
 // The digits of a distance, and those of a label: a key, an index or a slot.
-#[derive(Drop)]
+#[derive(Clone, Copy)]
 pub struct Widths {
     pub far: u32,
     pub label: u32,

@@ -1,4 +1,6 @@
 // Draws arenas. Each line on standard input is a form, `text` or `svg`, and the words of an arena, which is drawn in that form on standard output.
+#![tactic(auto)]
+
 mod blocks;
 mod boxes;
 mod cells;
@@ -19,7 +21,7 @@ const TEXT: u64 = 661268;
 
 const SVG: u64 = 20167;
 
-#[derive(Drop)]
+#[derive(Clone, Copy)]
 pub enum Form {
     Rows,
     Boxes,
@@ -80,7 +82,7 @@ fn line_end(numbers: &mut [u32], line: Line)
 }
 
 // The line that is being read, and whether the input may go on.
-#[derive(Drop)]
+#[derive(Clone, Copy)]
 pub struct Desk {
     pub line: Line,
     pub open: bool,

@@ -17,7 +17,7 @@ use script::Text;
 const ROOM: u32 = 62;
 
 // The rows below the levels.
-#[derive(Drop)]
+#[derive(Clone, Copy)]
 pub enum Foot {
     Next,
     Indexes,

@@ -15,7 +15,7 @@ const ROOM: u32 = 10;
 const WORDS: u32 = 32;
 
 // How many columns the picture has behind the head's, and how high it is.
-#[derive(Drop)]
+#[derive(Clone, Copy)]
 pub struct Size {
     pub columns: u32,
     pub height: u32,

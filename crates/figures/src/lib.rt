@@ -1,4 +1,6 @@
 // The figures of a list for a shift's report: how many readings, the smallest, the largest, those at a quarter and three quarters, twice the median.
+#![tactic(auto)]
+
 ghost use Rattle.std.specs.Prelude.{◌≡◌, ◌*◌, ◌≤◌, ◌<◌, length};
 ghost use Rattle.model.specs.Passes.{nodes};
 ghost use Rattle.arena.specs.Owners.{Listed};
@@ -7,7 +9,7 @@ ghost use Rattle.figures.specs.Figured.{figures_of, quarter, FiguresPromise};
 use answers::{Named, Refusal};
 use arena::{Index, Slot};
 
-#[derive(Drop)]
+#[derive(Clone, Copy)]
 pub struct Figures {
     pub count: u32,
     pub smallest: u32,
@@ -17,7 +19,7 @@ pub struct Figures {
     pub upper: u32,
 }
 
-#[derive(Drop)]
+#[derive(Clone, Copy)]
 pub enum FiguresAnswer {
     Are(Figures),
     Refused(Refusal),

@@ -1,4 +1,6 @@
 // The report's lines as bytes in a lent slice: the figures of a list, and how many lines were skipped.
+#![tactic(auto)]
+
 ghost use Rattle.std.specs.Prelude.{[], ◌∷◌, ◌+◌, ◌*◌, ◌≤◌, length};
 ghost use Rattle.figures_text.specs.Texts.{decimal_of, spaced, shown, line_of, last_of, Put};
 

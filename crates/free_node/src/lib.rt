@@ -1,4 +1,6 @@
 // "A freed slot takes the free column's form."
+#![tactic(auto)]
+
 ghost use Rattle.free_node.specs.NodeRecord.{HoldsNode, NodeFreed};
 
 use arena::{HEIGHT, KEY, Link, NEXT, Slot, cell, put, put_link, wide};

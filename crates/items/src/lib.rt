@@ -1,11 +1,13 @@
 // The items of a call script (docs/CALLS.md), each by its name and how many numbers stand behind it.
+#![tactic(auto)]
+
 mod names;
 
 ghost use Rattle.std.specs.Prelude.{◌≡◌};
 ghost use Rattle.items.specs.Tables.{item_of, named, bare, on_one, on_two, on_three};
 
 // What a line asks for; `Unknown` is what is no item.
-#[derive(Drop)]
+#[derive(Clone, Copy)]
 pub enum Item {
     Words,
     Check,

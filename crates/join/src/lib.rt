@@ -1,4 +1,6 @@
 // Module 7 of document 01, append's first worker: a list hung behind another, where "b follows a".
+#![tactic(auto)]
+
 ghost use Rattle.std.specs.Prelude.{◌≡◌, length};
 ghost use Rattle.model.specs.Arena.{encode};
 ghost use Rattle.model.specs.Closed.{do_join};

@@ -1,4 +1,6 @@
 // Module 7 of document 01, append's second worker: the nodes of one list put before those of another, where "b precedes a".
+#![tactic(auto)]
+
 ghost use Rattle.std.specs.Prelude.{◌≡◌, length};
 ghost use Rattle.model.specs.Arena.{next_column, encode};
 ghost use Rattle.model.specs.Cells.{Cell, link_at};

@@ -1,4 +1,6 @@
 // Module 4 of document 01: the walk by key over words that pass the check. The file is named after the crate's.
+#![tactic(auto)]
+
 mod ord_index;
 
 ghost use Rattle.std.specs.Prelude.{◌≡◌, ◌≤◌};
@@ -8,7 +10,7 @@ use arena::{Index, Rank, Slot};
 pub use ord_index::{search, walk};
 
 // A walk that may still make `left` comparisons. `base` is where the record of its slot begins.
-#[derive(Drop)]
+#[derive(Clone, Copy)]
 pub struct Visitor {
     pub slot: Slot,
     pub base: usize,
@@ -31,14 +33,14 @@ impl Visitor {
 }
 
 // After the levels: on, or out of comparisons.
-#[derive(Drop)]
+#[derive(Clone, Copy)]
 pub enum Hop {
     On(Visitor),
     Over,
 }
 
 // Where a walk ends: on the key, or before the first that is greater; or out of comparisons.
-#[derive(Drop)]
+#[derive(Clone, Copy)]
 pub enum Walked {
     Found(Visitor),
     Missing(Visitor),
@@ -46,7 +48,7 @@ pub enum Walked {
 }
 
 // What a search answers, with the tally; `Beyond` with the allowance.
-#[derive(Drop)]
+#[derive(Clone, Copy)]
 pub enum Searched {
     Found(Index, u32),
     Missing(Index, u32),

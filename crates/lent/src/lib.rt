@@ -1,4 +1,6 @@
 // The items of a call script that change the lent slice itself: `new`, `words` and `poke`. The lent slice is the first `len` words.
+#![tactic(auto)]
+
 ghost use Rattle.std.specs.Prelude.{◌≤◌, cond, false, ◌≡◌, leb, eqb, length, replicate, set};
 ghost use Rattle.lent.specs.Fronts.{over, Relent};
 

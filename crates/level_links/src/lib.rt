@@ -1,4 +1,6 @@
 // The links that change where a node goes in or out: level by level, by a path of precursors.
+#![tactic(auto)]
+
 ghost use Rattle.std.specs.Prelude.{◌≡◌, ◌+◌, ◌<◌};
 ghost use Rattle.model.specs.Arena.{first_free};
 ghost use Rattle.model.specs.Calls.{do_remove};

@@ -1,4 +1,6 @@
 // Module 8 of document 01: "the node of rank k gets as height the number of times 2 divides k, at most M; slots and keys stay."
+#![tactic(auto)]
+
 ghost use Rattle.std.specs.Prelude.{◌≡◌, ◌≤◌};
 ghost use Rattle.model.specs.Lists.{twos};
 ghost use Rattle.model.specs.Arena.{encode};

@@ -1,4 +1,6 @@
 // Module 1 of document 01 (the crate's `link.rs`): the distance of a link, made, raised by one and lowered by one.
+#![tactic(auto)]
+
 ghost use Rattle.std.specs.Prelude.{◌≡◌};
 ghost use Rattle.link.specs.Distances.{told, made, raised, lowered};
 
@@ -7,7 +9,7 @@ mod spans;
 pub use spans::{farther, longer, made, nearer, shorter};
 
 // What a link call answers: the distance, or one of the crate's three errors.
-#[derive(Drop)]
+#[derive(Clone, Copy)]
 pub enum Distance {
     Is(u32),
     Invalid,

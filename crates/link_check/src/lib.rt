@@ -1,5 +1,7 @@
 // The records and links of any words that have an arena's length: the forms that records share, and the links that are pending along a list.
 // Rests on arena, which says where each word stands. docs/CHECK.md says how the check uses them.
+#![tactic(auto)]
+
 mod pending;
 mod records;
 
@@ -7,7 +9,7 @@ pub use pending::{fill, pending_absent, pending_reach};
 pub use records::{absent_from, cell_of, is_node_slot, key_of};
 
 // The numbers of lists, levels and nodes.
-#[derive(Drop)]
+#[derive(Clone, Copy)]
 pub struct Dims {
     pub lists: u32,
     pub levels: usize,

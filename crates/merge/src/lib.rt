@@ -1,4 +1,6 @@
 // Module 7 of document 01, append's last case: "b's nodes, first to last, each go before the first key not below theirs in a as it then stands".
+#![tactic(auto)]
+
 ghost use Rattle.std.specs.Prelude.{◌≡◌, ◌<◌, length};
 ghost use Rattle.model.specs.Nodes.{at};
 ghost use Rattle.model.specs.Arena.{encode};

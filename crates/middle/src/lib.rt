@@ -1,4 +1,6 @@
 // Request K2: twice the median of a list, by one walk to the lower of its two middles and one step by next to the upper.
+#![tactic(auto)]
+
 ghost use Rattle.std.specs.Prelude.{◌≡◌, ◌+◌, ◌*◌, ◌≤◌, ◌<◌, length};
 ghost use Rattle.model.specs.Lists.{middle_of};
 ghost use Rattle.model.specs.Passes.{nodes};

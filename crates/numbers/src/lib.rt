@@ -1,4 +1,6 @@
 // Every answer as document 01's numbers, each told here and nowhere else: for C, for call scripts and for batches.
+#![tactic(auto)]
+
 ghost use Rattle.std.specs.Prelude.{◌≡◌, cond};
 ghost use Rattle.model.specs.Calls.{searched, keyed, refused, beyond};
 ghost use Rattle.setup.specs.Bare.{number_of as setup_number};
@@ -12,7 +14,7 @@ use link::Distance;
 use setup::Setup;
 
 // An answer of a call on an arena; 0 where the call has no such answer.
-#[derive(Drop)]
+#[derive(Clone, Copy)]
 pub struct Numbers {
     pub number: u32,
     pub found: u32,
@@ -22,14 +24,14 @@ pub struct Numbers {
 }
 
 // An answer of the middle call.
-#[derive(Drop)]
+#[derive(Clone, Copy)]
 pub struct MiddleNumbers {
     pub number: u32,
     pub twice: u64,
 }
 
 // An answer of a link call.
-#[derive(Drop)]
+#[derive(Clone, Copy)]
 pub struct DistanceNumbers {
     pub number: u32,
     pub distance: u32,

@@ -1,4 +1,6 @@
 // Module 5 of document 01: the walk by key with precursors, over words that pass the check. The file is named after the crate's.
+#![tactic(auto)]
+
 ghost use Rattle.std.specs.Prelude.{◌≡◌};
 
 mod ord_index_mut;
@@ -8,7 +10,7 @@ pub use ord_index_mut::find;
 
 // A walk that notes precursors. `bound` is where the link of the last of them leads, `Slot::NONE` where it is absent: its key was not
 // smaller, so the walk never goes on to it.
-#[derive(Drop)]
+#[derive(Clone, Copy)]
 pub struct Tracer {
     pub slot: Slot,
     pub rank: Rank,
@@ -16,7 +18,7 @@ pub struct Tracer {
 }
 
 // `Violation` is the crate's `total_order_violation`: the walk would go on to its bound. No arena that passes the check answers it.
-#[derive(Drop)]
+#[derive(Clone, Copy)]
 pub enum Outcome {
     Found,
     Missing,
@@ -24,7 +26,7 @@ pub enum Outcome {
 }
 
 // Where the walk stops: the slot just before the key's place, and its rank.
-#[derive(Drop)]
+#[derive(Clone, Copy)]
 pub struct Stop {
     pub slot: Slot,
     pub rank: Rank,
@@ -32,7 +34,7 @@ pub struct Stop {
 }
 
 // The precursors of the key's place, with the slot just before it; the place, which is the number of smaller keys; what was found there.
-#[derive(Drop)]
+#[derive(Clone, Copy)]
 pub struct Trail {
     pub path: Path,
     pub place: Index,

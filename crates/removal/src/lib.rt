@@ -1,4 +1,6 @@
 // Module 6 of document 01: removal in an arena that passes.
+#![tactic(auto)]
+
 ghost use Rattle.std.specs.Prelude.{◌≡◌, cond, ◌+◌, ◌<◌, eqb};
 ghost use Rattle.model.specs.Nodes.{N, key_at};
 ghost use Rattle.model.specs.Arena.{encode};

@@ -1,5 +1,7 @@
 // Reads a shift's text, lines of `list key`, from the file that its argument names or from standard input, and writes the report once all is read.
 // A text that cannot be read to its end, or a report that cannot be written, is told by one line on standard error.
+#![tactic(auto)]
+
 ghost use Rattle.std.specs.Prelude.{◌≤◌, ◌≡◌, length, take};
 ghost use Rattle.io.specs.Counts.{IsPrefixLen};
 ghost use Rattle.shift_feed.specs.Feeds.{empty};
@@ -12,7 +14,7 @@ use shift::Desk;
 const MOST: u64 = u64::MAX - 65537;
 
 // What a read found: a piece of the text, its end, or a fault, which has been told.
-#[derive(Drop)]
+#[derive(Clone, Copy)]
 pub enum Input {
     Open,
     Ended,
@@ -20,7 +22,7 @@ pub enum Input {
 }
 
 // What was read: the desk behind it, what the last read found, and how many reads and bytes it took.
-#[derive(Drop)]
+#[derive(Clone, Copy)]
 pub struct Taken {
     pub desk: Desk,
     pub input: Input,

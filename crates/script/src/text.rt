@@ -9,7 +9,7 @@ fn print_front(bytes: &[u8; 96], len: usize) {
     }
 }
 
-#[derive(Drop)]
+#[derive(Clone, Copy)]
 pub struct Text {
     pub bytes: [u8; 96],
     pub len: usize,

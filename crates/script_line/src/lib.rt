@@ -1,4 +1,6 @@
 // One line of a call script, read byte by byte: the item's name as one number, and its numbers into a lent slice.
+#![tactic(auto)]
+
 ghost use Rattle.std.specs.Prelude.{◌≡◌, ◌≤◌, length, set};
 ghost use Rattle.script_line.specs.Lines.{Within};
 ghost use Rattle.script_line.specs.Reads.{is_letter, blank, lettered, digited, numbered, Stepped, Finished};
@@ -10,7 +12,7 @@ use digits::Number;
 const SPACE: u8 = b' ';
 
 // What has been read of a line: nothing, a name, a space, digits, a comment, or what is no item.
-#[derive(Drop)]
+#[derive(Clone, Copy)]
 pub enum Reading {
     Nothing,
     Name,
@@ -20,7 +22,7 @@ pub enum Reading {
     Spoilt,
 }
 
-#[derive(Drop)]
+#[derive(Clone, Copy)]
 pub struct Line {
     pub reading: Reading,
     // The name's letters, five bits each, the first highest.

@@ -1,4 +1,6 @@
 // Set-up (module 2 of document 01): all lists empty, the free slots chained upwards from L. Rests on arena, which says where each word stands.
+#![tactic(auto)]
+
 ghost use Rattle.std.specs.Prelude.{◌≡◌, ◌+◌, ◌-◌, ◌*◌, ◌≤◌, ◌<◌, length};
 ghost use Rattle.model.specs.Arena.{header_words, width, count_column, header, set_up, record_of};
 ghost use Rattle.model.specs.Calls.{SetUpPromise};
@@ -9,14 +11,14 @@ ghost use Rattle.setup.specs.NewRecords.{front_words, bare_record, Written, Firs
 
 use arena::{Link, Slot};
 
-#[derive(Drop)]
+#[derive(Clone, Copy)]
 pub enum Setup {
     Done,
     Wrong,
 }
 
 // The words of a record before its links.
-#[derive(Drop)]
+#[derive(Clone, Copy)]
 pub struct Front {
     pub count: u32,
     pub height: u32,

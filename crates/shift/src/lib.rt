@@ -1,5 +1,7 @@
 // The depot's shift report. A text of lines `list key` is fed in any pieces to a desk over an arena of two lists; then the figures of each list and
 // the number of skipped lines are answered, as numbers or as the report's bytes. Any words, any desk, nothing required.
+#![tactic(auto)]
+
 ghost use Rattle.std.specs.Prelude.{◌≡◌, map, ◌≤◌, length, get_or};
 ghost use Rattle.model.specs.Arena.{levels_word, lists_word};
 ghost use Rattle.model.specs.Passes.{decode, Passes};

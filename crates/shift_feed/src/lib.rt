@@ -1,4 +1,6 @@
 // Reading a shift's text in pieces: each whole line `list key` is inserted at height 0, the others are counted. Any words, any desk.
+#![tactic(auto)]
+
 ghost use Rattle.std.specs.Prelude.{◌≡◌, suc};
 ghost use Rattle.shift_feed.specs.Feeds.{empty, fed, fed_byte, end_line, ended, capped, Goes};
 ghost use Rattle.model.specs.Calls.{insert_key, Promise, CheckPromise};
@@ -9,7 +11,7 @@ use arena::Slot;
 use shift_line::{Entry, Line, Part};
 
 // What is kept between two pieces: what was read of a line, and how many lines were skipped.
-#[derive(Drop)]
+#[derive(Clone, Copy)]
 pub struct Desk {
     pub line: Line,
     pub skipped: u64,

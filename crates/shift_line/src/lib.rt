@@ -1,4 +1,6 @@
 // One line of a shift's text, read byte by byte: `list key`, both decimal. A line has no longest length, so only its two numbers are kept.
+#![tactic(auto)]
+
 ghost use Rattle.std.specs.Prelude.{◌≡◌};
 ghost use Rattle.shift_line.specs.Reads.{blank, spoilt, digited, stepped, entry_of};
 
@@ -7,7 +9,7 @@ use digits::Number;
 const SPACE: u8 = b' ';
 
 // What was read last of a line: nothing yet, the list's digits, the space, the key's digits; or a byte that no such line has.
-#[derive(Drop)]
+#[derive(Clone, Copy)]
 pub enum Part {
     Nothing,
     ListDigits,
@@ -16,7 +18,7 @@ pub enum Part {
     Spoilt,
 }
 
-#[derive(Drop)]
+#[derive(Clone, Copy)]
 pub struct Line {
     pub part: Part,
     // The list, once the space is read.
@@ -26,7 +28,7 @@ pub struct Line {
 }
 
 // What a whole line says: a list and a key, or nothing that parses.
-#[derive(Drop)]
+#[derive(Clone, Copy)]
 pub enum Entry {
     Reading(u32, u32),
     Unread,

@@ -1,5 +1,7 @@
 // The ordered list's calls for users: any words, any arguments, nothing required. Each is public as it stands in its crate, with the promise
 // written there.
+#![tactic(auto)]
+
 pub use answers::{KeyAnswer, PlainAnswer, Refusal, SearchAnswer};
 pub use arena::{Index, Slot};
 pub use arena_check::check;

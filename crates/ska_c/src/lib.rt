@@ -1,4 +1,6 @@
 // The calls for C: pointer and length for the words, numbers for the rest, document 01's number as result, values through out-parameters.
+#![tactic(auto)]
+
 mod keys;
 mod links;
 

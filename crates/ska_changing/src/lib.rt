@@ -1,5 +1,7 @@
 // The public calls that change one list: insert, remove by key, remove at an index, levelling. Any words, any arguments: each checks the arena and
 // then asks `checked_changing`.
+#![tactic(auto)]
+
 ghost use Rattle.model.specs.Calls.{insert_key, remove_key, remove_index, level, Promise};
 ghost use Rattle.answers.specs.Told.{key_told, plain_told};
 

@@ -1,5 +1,7 @@
 // The public calls that cut and join lists: truncate, clear, split at an index, split by key, append. Any words, any arguments: each checks the
 // arena and then asks `checked_cutting`.
+#![tactic(auto)]
+
 ghost use Rattle.model.specs.Calls.{truncate, clear, split_at, split_key, append_list, Promise};
 ghost use Rattle.answers.specs.Told.{plain_told};
 

@@ -1,4 +1,6 @@
 // The public calls that only read: search, read at an index, middle. Any words, any arguments: each checks the arena and then asks `checked_reading`.
+#![tactic(auto)]
+
 ghost use Rattle.model.specs.Calls.{search, read, middle, Promise};
 ghost use Rattle.answers.specs.Told.{key_told, middle_told, search_told};
 

@@ -1,4 +1,6 @@
 // Module 7 of document 01, the split: "moves everything from index i into the empty receiving list."
+#![tactic(auto)]
+
 ghost use Rattle.std.specs.Prelude.{◌≡◌, []};
 ghost use Rattle.model.specs.Nodes.{smaller};
 ghost use Rattle.model.specs.Arena.{encode};

@@ -1,4 +1,6 @@
 // Module 7 of document 01, truncation: a list ends at a path of precursors, and "the rest are freed in list order".
+#![tactic(auto)]
+
 ghost use Rattle.std.specs.Prelude.{◌≡◌, cond, eqb};
 ghost use Rattle.model.specs.Nodes.{N};
 ghost use Rattle.model.specs.Arena.{count_column, next_column, last_column, encode};

@@ -7,7 +7,7 @@ use arena::{Index, Rank, Slot};
 use rank_walk::Spot;
 
 // `level` is the number of levels still to come: all of them at the head, none after a walk.
-#[derive(Drop)]
+#[derive(Clone, Copy)]
 pub struct IndexVisitor {
     pub list: Slot,
     pub level: usize,

@@ -7,7 +7,7 @@ use key_walk::{Visitor, Walked};
 
 // `level` is the number of levels still to come: all of them at the head, none after a walk. `left` is the number of comparisons left; `over`
 // says that the last walk asked for more.
-#[derive(Drop)]
+#[derive(Clone, Copy)]
 pub struct OrdIndexVisitor {
     pub list: Slot,
     pub level: usize,

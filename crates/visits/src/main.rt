@@ -1,6 +1,8 @@
 // Walks Q of document 01 by key and by rank: with the walks by value, and with the visitors given back, lent, and lent again. Each line ends in the
 // numbers that the walk answers, so that the lines of one key, or of one rank, can be compared. A second walk of the same visitor compares once more
 // where the key is missing and one follows, and never where it is found.
+#![tactic(auto)]
+
 mod arena_of_q;
 mod printing;
 
