@@ -1,5 +1,5 @@
 -- What a call keeps of an arena that passes: when it is refused, when it is accepted, when it only reads. Rests on specs/Lists and specs/Kept.
-use Prim.Native.Nat.{ℕ, ◌<◌}
+use Prim.Native.Nat.{ℕ}
 use mathlib.Core.Path.{◌≡◌, refl, sym, ap, ◌∙◌}
 use mathlib.Core.Bool.{Bool, true, false, cond}
 use mathlib.Core.List.{List}

@@ -2,7 +2,7 @@
 use Prim.Native.Nat.{ℕ, zero, suc, ◌+◌, ◌-◌, ◌≤◌, ◌<◌}
 use mathlib.Core.Path.{◌≡◌, refl, sym, ap, ◌∙◌}
 use mathlib.Core.List.{List, [], ◌∷◌}
-use lib.ListN.{length, take, drop, get_or, set, replicate, get_or-replicate, length-set, length-drop}
+use lib.ListN.{length, take, drop, set, replicate, get_or-replicate, length-set, length-drop}
 use lib.Seq.{get_or-drop, get_or-take, length-take-le, get_or-set_same, get_or-set_other}
 use native.Mathlib.Omega.{arith}
 use Rattle.model.specs.Nodes.{Node, node, N, at, slot_at}
