@@ -44,7 +44,7 @@ pub loop-i-preserved : goal.loop-i-preserved
 loop-i-preserved c =
         λ v a p e g.
     free_turn p (c.loop-i.invariant v a p e g) (omega (arith, c.loop-i-test.true, e)) c.cell-in-loop-i.ensures
-    c.free_node.ensures c.free_node.kept.0
+    c.free_node.ensures c.free_node.auto.w
 
 pub overflow_sub-count : goal.overflow_sub-count
 overflow_sub-count c =
