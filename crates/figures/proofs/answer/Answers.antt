@@ -9,4 +9,4 @@ use Rattle.figures.proofs.answer.Goals as goal
 pub returns-in-Refused : goal.returns-in-Refused
 returns-in-Refused c =
             whole c.check.ensures c.if-not-check.false
-    (not_there c.args.w.now c.args.list.0 (rw c.r-1.given.1 at c.one_list.ensures))
+    (not_there c.args.w.now c.args.list.0 (rw c.in-Refused.is at c.one_list.ensures))
