@@ -76,13 +76,7 @@ fn fault(alloc: Global, name: &[u8], fault: &Error) -> Input {
 }
 
 // Takes what has arrived.
-fn piece<R: Read>(
-    alloc: Global,
-    words: &mut [u32],
-    desk: Desk,
-    from: &mut R,
-    name: &[u8],
-) -> Taken
+fn piece<R: Read>(alloc: Global, words: &mut [u32], desk: Desk, from: &mut R, name: &[u8]) -> Taken
     ensures { Onward result.spent desk words.old result.desk words.new × (1 ≤ result.spent) × (result.spent ≤ 65537) }
 {
     let mut buffer = io::large_buffer();
