@@ -3,7 +3,6 @@ use Prim.Native.Nat.{◌-◌}
 use mathlib.Core.Path.{◌≡◌}
 use lib.ListN.{length}
 use Rattle.script_line.specs.Lines.{Within}
-use borrow.Author.Rules.{rules}
 use Rattle.draw.proofs.feed.Given as goal
 
 abbrev pub invariant-loop-i : goal.invariant-loop-i

@@ -2,12 +2,8 @@
 use Prim.Native.Nat.{◌-◌, ◌≤◌}
 use mathlib.Core.Path.{◌≡◌}
 use lib.ListN.{length, take}
-use lib.Seq.{take-length}
-use borrow.Author.Rules.{rules}
-use native.Mathlib.Omega.{arith}
 use Rattle.model.specs.Calls.{CheckPromise}
 use Rattle.shift_feed.specs.Feeds.{fed, Goes}
-use Rattle.shift_feed.proofs.Feeding.{nothing-fed, byte-fed, all-fed}
 use Rattle.shift_feed.proofs.feed.Given as goal
 
 abbrev pub invariant-loop-i : goal.invariant-loop-i

@@ -1,8 +1,6 @@
 -- `draw::boxes::level` is safe: a block has at most ten columns, and the held link leaves an owner before the index.
-use Rattle.draw.proofs.Drawing.{in_block}
 use Prim.Native.Nat.{◌-◌, ◌≤◌}
 use Rattle.draw.specs.Holds.{Holds}
-use borrow.Author.Rules.{rules}
 use Rattle.draw.proofs.boxes.level.Given as goal
 
 abbrev pub invariant-loop-i : goal.invariant-loop-i

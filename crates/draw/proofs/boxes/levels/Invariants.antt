@@ -1,6 +1,5 @@
 -- `draw::boxes::levels` is safe and ends: it goes down by a level.
 use Prim.Native.Nat.{◌≤◌}
-use borrow.Author.Rules.{rules}
 use Rattle.draw.proofs.boxes.levels.Given as goal
 
 abbrev pub invariant-loop-stage : goal.invariant-loop-stage

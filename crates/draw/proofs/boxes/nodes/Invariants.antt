@@ -1,7 +1,5 @@
 -- `draw::boxes::nodes` is safe: a block has at most ten columns.
-use Rattle.draw.proofs.Drawing.{in_block}
 use Prim.Native.Nat.{◌-◌, ◌≤◌}
-use borrow.Author.Rules.{rules}
 use Rattle.draw.proofs.boxes.nodes.Given as goal
 
 abbrev pub invariant-loop-i : goal.invariant-loop-i

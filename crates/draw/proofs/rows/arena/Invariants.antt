@@ -1,6 +1,5 @@
 -- `draw::rows::arena` is safe and ends: it counts the lists.
 use Prim.Native.Nat.{◌-◌, ◌≤◌}
-use borrow.Author.Rules.{rules}
 use Rattle.draw.proofs.rows.arena.Given as goal
 
 abbrev pub invariant-loop-a : goal.invariant-loop-a

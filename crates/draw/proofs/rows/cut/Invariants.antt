@@ -1,6 +1,5 @@
 -- `draw::rows::cut` is safe and ends: it counts the blocks.
 use Prim.Native.Nat.{◌-◌, ◌≤◌}
-use borrow.Author.Rules.{rules}
 use Rattle.draw.proofs.rows.cut.Given as goal
 
 abbrev pub invariant-loop-k : goal.invariant-loop-k

@@ -1,8 +1,6 @@
 -- `draw::rows::level` is safe: the indexes of a block are those of nodes, and the held link leaves an owner before the index.
 use Prim.Native.Nat.{◌-◌, ◌≤◌}
-use Rattle.draw.proofs.Drawing.{in_block}
 use Rattle.draw.specs.Holds.{Holds}
-use borrow.Author.Rules.{rules}
 use Rattle.draw.proofs.rows.level.Given as goal
 
 abbrev pub invariant-loop-i : goal.invariant-loop-i

@@ -1,6 +1,5 @@
 -- `draw::sheet::arena` is safe and ends: sixteen lists are no higher than their heights.
 use Prim.Native.Nat.{◌*◌, ◌-◌, ◌≤◌}
-use borrow.Author.Rules.{rules}
 use Rattle.draw.proofs.sheet.arena.Given as goal
 
 abbrev pub invariant-loop-a : goal.invariant-loop-a

@@ -1,6 +1,5 @@
 -- `draw::sheet::cut` is safe and ends: it counts the blocks, which are no higher than 560.
 use Prim.Native.Nat.{◌+◌, ◌*◌, ◌-◌, ◌≤◌}
-use borrow.Author.Rules.{rules}
 use Rattle.draw.proofs.sheet.cut.Given as goal
 
 abbrev pub invariant-loop-k : goal.invariant-loop-k
