@@ -6,11 +6,11 @@ use Rattle.figures_text.proofs.last.Goals as goal
 
 pub decimal-counted-requires : goal.decimal-counted-requires
 decimal-counted-requires c =
-    omega (arith, twenty c.args.skipped c.fits.skipped.fits)
+    omega (arith, twenty c.args.skipped c.ranges.skipped.fits)
 
 pub byte-requires : goal.byte-requires
 byte-requires c =
-    omega (arith, twenty c.args.skipped c.fits.skipped.fits)
+    omega (arith, twenty c.args.skipped c.ranges.skipped.fits)
 
 pub returns : goal.returns
 returns c =
