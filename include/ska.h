@@ -1,5 +1,5 @@
 /* SKA: ordered lists of uint32_t keys in words that the caller lends. A C program needs this page and the library, nothing else
-   (`rt staticlib ska_c` writes it, for x86-64: target/staticlib/libska_c.a). Every call is proved against its promise.
+   (`rt lib` in crates/ska_c writes it, for x86-64: crates/ska_c/out/libska_c.a). Every call is proved against its promise.
 
    The words. An arena is an array of uint32_t with L lists (1 to 16), M levels of links (1 to 16) and C nodes (1 to 65535), a node
    for each key. It has exactly SKA_WORDS(L, M, C) words. ska_set_up makes one; its words may be copied, stored and lent again
@@ -20,7 +20,8 @@
    Memory. No heap. A call takes at most 1104 bytes of stack (ska_append; every other at most 800). This is the sum of the frames
    in the library's disassembly along the deepest chain of calls, with return addresses and with the 128 bytes below the stack
    pointer that the x86-64 System V convention gives a function that calls no other. A handler on the same stack must keep off
-   those 128. A run on a painted stack used 1088. The code uses the general and the SSE registers. */
+   those 128. A run on a painted stack used 1088. The code uses the general and the SSE registers. The figures are those of an older
+   kit's compiler. */
 #ifndef SKA_H
 #define SKA_H
 

@@ -1,6 +1,6 @@
 /* Readings of a lamp kept in lent words: every call of ska.h from C, each refusal once, and an arena of the largest size.
    Prints an account; stops with status 1 at the first answer that is not the expected one. It needs ska.h and the library alone:
-   gcc -std=c99 -Wall -Wextra -pedantic -Iinclude examples/c/lamp.c target/staticlib/libska_c.a */
+   gcc -std=c99 -Wall -Wextra -pedantic -Iinclude examples/c/lamp.c crates/ska_c/out/libska_c.a */
 #include "ska.h"
 
 #include <stdio.h>
