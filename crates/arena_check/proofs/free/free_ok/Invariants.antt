@@ -1,0 +1,10 @@
+-- `arena_check::free::free_ok` meets its contract. The loop's invariant: the free chain is right exactly when what is left of it is.
+use borrow.Author.Rules.{rules}
+use Rattle.arena_check.proofs.FreeWalk.{FreeAt, free_walk_start, free_next, not_free, free_goes-on, free_yes, free_slot_in}
+use Rattle.arena_check.proofs.free.free_ok.Given as goal
+
+abbrev pub invariant-loop-left : goal.invariant-loop-left
+invariant-loop-left l = FreeAt l.w l.d l.left l.at
+
+abbrev pub decreases-loop-left : goal.decreases-loop-left
+decreases-loop-left l = l.left

@@ -1,0 +1,41 @@
+-- `level_links::insert_links` meets its contract: after l turns the links of the levels below l are those of the new model.
+use Prim.Native.Nat.{ℕ, ◌-◌, ◌≤◌}
+use mathlib.Core.Path.{◌≡◌}
+use native.Mathlib.Omega.{arith}
+use borrow.Author.Rules.{rules}
+use lib.ListN.{take}
+use Rattle.model.specs.Passes.{decode}
+use Rattle.arena.specs.Owners.{Before}
+use Rattle.arena.proofs.Relink.{Relinked}
+use Rattle.level_links.specs.AtIndex.{inserted_at, CanInsert}
+use Rattle.level_links.proofs.InsertLinks.{insert_start, insert_size, insert-end, rank_le, level_fits, insert_turn}
+use Rattle.level_links.proofs.insert_links.Goals as goal
+
+pub loop-l-init : goal.loop-l-init
+loop-l-init c = ((λ a i e p q. insert_start p), omega arith)
+
+pub overflow_sub-back : goal.overflow_sub-back
+overflow_sub-back c =
+        let (p, q) = c.requires.can_insert in
+    let e = c.before-place.ensures in
+    rank_le p q.before (c.loop-l.invariant.0 _ _ e p q.before) c.loop-l-test.true e
+
+pub insert_level-requires : goal.insert_level-requires
+insert_level-requires c =
+        let (p, q) = c.requires.can_insert in
+    let e = c.before-place.ensures in
+    level_fits p q.before (c.loop-l.invariant.0 _ _ e p q.before) c.loop-l-test.true e c.requires.o_value
+
+pub loop-l-preserved : goal.loop-l-preserved
+loop-l-preserved c =
+    let known : record {
+      start : Start;
+      h : tie.After-wide;
+      loop : Loop;
+      turn : tie.In-loop;
+      level : tie.After-insert-level;
+    } = search in
+    let l = known.turn.loop-test.taken in (
+      (λ a i e p q. insert_turn p q (known.loop.loop.inv.0 a i e p q) l e known.start.pre.1 known.h.wide.ensures known.level.insert-level.ensures),
+      omega (arith, l),
+    )

@@ -1,0 +1,26 @@
+-- `precursors::ord_index_mut::find` meets its contract.
+-- The invariant: the walk stands no further than the number of smaller keys, and the precursors of the levels above are noted. The measure: stages
+-- and ranks left.
+use Prim.Native.Nat.{◌+◌, ◌-◌}
+use mathlib.Core.Path.{◌≡◌, refl, ◌∙◌}
+use native.Mathlib.Omega.{arith}
+use borrow.Author.Rules.{rules}
+use borrow.Author.Tests.{not-true, not-false}
+use Rattle.model.specs.Cells.{base_of}
+use Rattle.model.specs.Nodes.{smaller}
+use Rattle.model.specs.Passes.{nodes}
+use Rattle.arena.proofs.Deciding.{yes, no}
+use Rattle.walk.proofs.Standing.{length_most, lowered, link_here}
+use Rattle.walk.proofs.Ahead.{key_cell}
+use Rattle.walk.proofs.Noting.{Noted, noted-none, noted_more, noted-all}
+use Rattle.precursors.specs.Trails.{Begun}
+use Rattle.precursors.proofs.Tracing.{begun-at_head, stops_here, bound_here, far_on, goes_there, never_bound}
+use Rattle.precursors.proofs.ord_index_mut.find.Given as goal
+
+abbrev pub invariant-loop-stage : goal.invariant-loop-stage
+invariant-loop-stage l =
+    Begun l.w l.m l.list.0 l.stage l.key l.v × (l.base ≡ base_of l.m l.v.slot.0)
+    × Noted l.w l.m l.list.0 (smaller l.key (nodes l.w l.list.0)) l.stage l.slots l.ranks
+
+abbrev pub decreases-loop-stage : goal.decreases-loop-stage
+decreases-loop-stage l = l.stage + (65536 - l.v.rank.0)

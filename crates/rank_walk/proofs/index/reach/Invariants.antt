@@ -1,0 +1,20 @@
+-- `rank_walk::index::reach` meets its contract.
+-- The invariant: the walk stands no further than the target. The measure: stages and ranks left.
+use Prim.Native.Nat.{◌+◌, ◌-◌}
+use mathlib.Core.Path.{◌≡◌, ◌∙◌}
+use native.Mathlib.Omega.{arith}
+use borrow.Author.Rules.{rules}
+use borrow.Author.Tests.{not-false}
+use Rattle.model.specs.Cells.{base_of}
+use Rattle.arena.proofs.Deciding.{yes}
+use Rattle.walk.specs.Standing.{Standing}
+use Rattle.walk.proofs.Standing.{levels_most, length_most, lowered, link_here}
+use Rattle.rank_walk.proofs.Seeking.{follows}
+use Rattle.rank_walk.proofs.index.reach.Given as goal
+
+abbrev pub invariant-loop-stage : goal.invariant-loop-stage
+invariant-loop-stage l =
+    Standing l.w l.m l.list.0 l.target.0 l.stage l.v.slot.0 l.v.rank.0 × (l.base ≡ base_of l.m l.v.slot.0)
+
+abbrev pub decreases-loop-stage : goal.decreases-loop-stage
+decreases-loop-stage l = l.stage + (l.target.0 - l.v.rank.0)
