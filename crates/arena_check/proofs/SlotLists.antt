@@ -1,6 +1,6 @@
 -- The slots of lists of nodes, as chains of slots: times, ends and totals; and chains told apart by their ends. Rests on model's Apart.
 use Prim.Native.Nat.{ℕ, zero, suc, ◌+◌, ◌≤◌, ◌<◌}
-use mathlib.Core.Path.{◌≡◌, refl, ap}
+use mathlib.Core.Path.{◌≡◌, refl, ap, sym, subst}
 use mathlib.Core.List.{List, [], ◌∷◌}
 use lib.ListN.{length, get_or}
 use native.Mathlib.Omega.{arith}
@@ -110,4 +110,4 @@ lasts_differ xss h a b l e = go (get_or xss a []) (get_or xss b []) refl refl e
     go (x ∷ xs) (y ∷ ys) p q i =
         let s = last_slot (x ∷ xs) in
         let t = rw (p, q) at (two_lists s xss a b l) in
-        absurd (omega (arith, h s, t, last_in_lem x xs, rw (← i) at (last_in_lem y ys)))
+        absurd (omega (arith, h s, t, last_in_lem x xs, subst (λ (v : ℕ). 1 ≤ times v (y ∷ ys)) (sym i) (last_in_lem y ys)))

@@ -28,14 +28,7 @@ insert_level-requires c =
 
 pub loop-l-preserved : goal.loop-l-preserved
 loop-l-preserved c =
-    let known : record {
-      start : Start;
-      h : tie.After-wide;
-      loop : Loop;
-      turn : tie.In-loop;
-      level : tie.After-insert-level;
-    } = search in
-    let l = known.turn.loop-test.taken in (
-      (λ a i e p q. insert_turn p q (known.loop.loop.inv.0 a i e p q) l e known.start.pre.1 known.h.wide.ensures known.level.insert-level.ensures),
+        let l = c.loop-l-test.true in (
+      (λ a i e p q. insert_turn p q (c.loop-l.invariant.0 a i e p q) l e c.requires.o_value c.wide-h.ensures c.insert_level.ensures),
       omega (arith, l),
     )

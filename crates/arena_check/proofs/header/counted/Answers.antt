@@ -9,8 +9,8 @@ use Rattle.arena_check.proofs.header.counted.Goals as goal
 
 pub loop-a-init : goal.loop-a-init
 loop-a-init c =
-        count_none c.wide-sum.ensures (omega (arith, c.wide-sum.ensures, c.shared_slice_known-2-1.given free_word))
+        count_none c.wide-sum.ensures (omega (arith, c.wide-sum.ensures, c.type_inv.w free_word))
 
 pub loop-a-preserved : goal.loop-a-preserved
 loop-a-preserved c =
-        count_more c.loop-a.invariant c.loop-a-test.true (c.wide-sum-in-loop-a.ensures ∙ c.cell_of.ensures) (omega (arith, c.wide-sum-in-loop-a.ensures, c.cell_of.ok))
+        count_more c.loop-a.invariant c.loop-a-test.true (c.wide-sum-in-loop-a.ensures ∙ c.cell_of.ensures) (omega (arith, c.wide-sum-in-loop-a.ensures, c.cell_of.type_inv))

@@ -8,8 +8,7 @@ use Rattle.list_check.specs.Walked.{ListOk}
 use Rattle.arena_check.proofs.heads.lists_ok.Goals as goal
 
 pub list_ok-requires-clause-a_bound : goal.list_ok-requires-clause-a_bound
-list_ok-requires-clause-a_bound c =
-        (search rules, (search rules, length_fits _ _ _ c.requires.lists_value c.loop-a-test.true))   -- TODO the clause alone
+list_ok-requires-clause-a_bound c = length_fits _ _ _ c.requires.lists_value c.loop-a-test.true
 
 pub returns-else-list_ok : goal.returns-else-list_ok
 returns-else-list_ok c =

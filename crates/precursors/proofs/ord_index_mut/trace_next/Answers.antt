@@ -13,12 +13,6 @@ use Rattle.precursors.specs.Trails.{Begun, GoesBelow}
 use Rattle.precursors.proofs.Tracing.{stops_here, goes_there, never_bound, stopped, missing_absent, missing_greater, found_equal}
 use Rattle.precursors.proofs.ord_index_mut.trace_next.Goals as goal
 
-is_below : (on : On) → let r = (passed on).compared.looked in GoesBelow r.start.args.w.now r.start.args.m r.start.args.key r.to.cell.result
-is_below on =
-    let r = passed on in
-    let below = else_below (no r.compared.below.below.ensures r.not-greater.if2.left) (no r.same.same.ensures on.if3.left) in
-    (omega (arith, r.compared.present.if1.left), rw r.compared.met.key_at_lem.ensures at below)
-
 pub cell-requires : goal.cell-requires
 cell-requires c =
         cell_here (c.loop-next.invariant _ c.requires).stands next_column (omega arith)
@@ -40,33 +34,31 @@ returns-then-below c =
         let g = c.loop-next.invariant _ c.requires in
     let to = c.cell.ensures ∙ next-cell g.stands in
     let y = yes c.below.ensures c.if-below.true in
-    let k = stops_here g to (λ b. omega (arith, y, c.key_at_lem.ensures, b.1)) in
-    stopped k (missing_greater k to c.if-next.false c.key_at_lem.ensures y) c.stop-then-below.ensures
+    let k = stops_here g to (λ b. omega (arith, y, c.key_at-met.ensures, b.1)) in
+    stopped k (missing_greater k to c.if-next.false c.key_at-met.ensures y) c.stop-then-below.ensures
 
 pub returns-then-same : goal.returns-then-same
 returns-then-same c =
         let g = c.loop-next.invariant _ c.requires in
     let to = c.cell.ensures ∙ next-cell g.stands in
     let y = yes c.same.ensures c.if-same.true in
-    let k = stops_here g to (λ b. omega (arith, y, c.key_at_lem.ensures, b.1)) in
-    stopped k (found_equal k to c.if-next.false c.key_at_lem.ensures y) c.stop-then-same.ensures
+    let k = stops_here g to (λ b. omega (arith, y, c.key_at-met.ensures, b.1)) in
+    stopped k (found_equal k to c.if-next.false c.key_at-met.ensures y) c.stop-then-same.ensures
 
 pub plus-rank-requires : goal.plus-rank-requires
 plus-rank-requires c =
-        let r = (passed on).compared in
-    let g = r.looked.head.loop.inv _ r.looked.start.pre in
+            let g = c.loop-next.invariant _ c.requires in
     omega (arith, length_most g.stands, g.stands.owner.within)
 
 pub loop-next-smaller : goal.loop-next-smaller
 loop-next-smaller c =
-        let r = (passed on).compared in
-    let g = r.looked.head.loop.inv _ r.looked.start.pre in
+            let g = c.loop-next.invariant _ c.requires in
     omega (arith, length_most g.stands, g.stands.owner.within, c.plus-rank.ensures)
 
 pub loop-next-preserved : goal.loop-next-preserved
 loop-next-preserved c =
-        let r = (passed on).compared in
-    λ a h.
-    let g = r.looked.head.loop.inv a h in
-    let to = r.looked.to.cell.ensures ∙ next-cell g.stands in
-    record { stands = goes_there g to (is_below on) (next_one g.stands to r.present.if1.left) c.plus-rank.ensures; bound = g.bound }
+            λ a h.
+    let g = c.loop-next.invariant a h in
+    let to = c.cell.ensures ∙ next-cell g.stands in
+    record { stands = goes_there g to (    let below = else_below (no c.below.ensures c.if-below.false) (no c.same.ensures c.if-same.false) in
+    (omega (arith, c.if-next.false), rw c.key_at-met.ensures at below)) (next_one g.stands to c.if-next.false) c.plus-rank.ensures; bound = g.bound }
