@@ -5,10 +5,12 @@ mod acts;
 mod lines;
 
 ghost use Rattle.std.specs.Prelude.{◌≤◌, true, ◌≡◌, length};
+ghost use Rattle.io.specs.Counts.{IsPrefixLen};
 ghost use Rattle.script_line.specs.Lines.{Within};
 ghost use Rattle.calls.specs.Desks.{Ready};
 
 use script_line::{Line, Reading};
+use std::io::{Read, Stdin};
 
 // The line that is being read, how many words are lent, and whether the input may go on.
 #[derive(Clone, Copy)]
@@ -93,14 +95,23 @@ fn finish(words: &mut [u32], numbers: &mut [u32], desk: Desk) -> Desk
     }
 }
 
+// How many bytes have arrived, at the buffer's front: none at the end of the input, nor where it cannot be read.
+fn arrived(input: &mut Stdin, buffer: &mut [u8]) -> usize
+    ensures { IsPrefixLen result buffer.new }
+{
+    match input.read(buffer) {
+        Ok(n) => n,
+        Err(_) => 0,
+    }
+}
+
 // Runs what has arrived.
-fn turn(words: &mut [u32], numbers: &mut [u32], desk: Desk) -> Desk
+fn turn(input: &mut Stdin, words: &mut [u32], numbers: &mut [u32], desk: Desk) -> Desk
     requires { Ready desk words.old numbers.old }
     ensures { Ready result words.new numbers.new }
 {
     let mut buffer = io::large_buffer();
-    let got = libc::read(0, &mut buffer);
-    let n = io::count(got, &buffer);
+    let n = arrived(input, &mut buffer);
     if n == 0 {
         return finish(words, numbers, desk);
     }
@@ -115,7 +126,7 @@ pub struct Ran {
 }
 
 // A proved loop has to end, and nothing says that the input does: the turns count up to a number that no run reaches.
-fn run(words: &mut [u32], numbers: &mut [u32]) -> Ran
+fn run(input: &mut Stdin, words: &mut [u32], numbers: &mut [u32]) -> Ran
     ensures { result.open ≡ true → result.turns ≡ 18446744073709551615 }
 {
     let blank = Line::new();
@@ -126,7 +137,7 @@ fn run(words: &mut [u32], numbers: &mut [u32]) -> Ran
     };
     let mut turns: u64 = 0;
     while turns < u64::MAX {
-        desk = turn(words, numbers, desk);
+        desk = turn(input, words, numbers, desk);
         turns += 1;
         if !desk.open {
             return Ran { open: false, turns };
@@ -135,8 +146,9 @@ fn run(words: &mut [u32], numbers: &mut [u32]) -> Ran
     Ran { open: true, turns }
 }
 
-fn main() {
+fn main(rt: HostRuntime) {
     let mut words = [0u32; 262144];
     let mut numbers = [0u32; 262144];
-    run(&mut words, &mut numbers);
+    let mut input = rt.stdin();
+    run(&mut input, &mut words, &mut numbers);
 }

@@ -7,8 +7,6 @@ use mathlib.Core.List.{List, [], ◌∷◌}
 use lib.ListN.{length}
 use native.Mathlib.Omega.{arith}
 use borrow.Author.Tests.{lt-ltb}
-use types.Run.{OneOf}
-use denote.Enum.Declared.{tag_of}
 use Rattle.model.specs.Nodes.{Node, key_at, smaller, Sorted}
 use Rattle.model.specs.Walks.{End, ended, is_found, key_walk}
 use Rattle.model.specs.Arena.{State, encode}
@@ -66,15 +64,15 @@ module _ {w : List ℕ} {m a : ℕ} (p : Listed w m a) (k : ℕ) where
 
   -- what the search answered
   module _ (r : Searched) (e : answer_of r ≡ answer_to S (search a k 4294967295)) where
-    not_found : OneOf (1 ∷ 2 ∷ []) (tag_of the_type r) → is_found walked ≡ false
+    not_found : ((i : Index) (n : ℕ) → r ≢ Found i n) → is_found walked ≡ false
     not_found h = by r (e ∙ asked) h
       where
-        by : (z : Searched) → answer_of z ≡ accepted S (search a k 4294967295) → OneOf (1 ∷ 2 ∷ []) (tag_of the_type z) → is_found walked ≡ false
-        by (Found i n) q t = absurd (⊎_elim (λ x. omega arith) (λ x. omega arith) t)
+        by : (z : Searched) → answer_of z ≡ accepted S (search a k 4294967295) → ((i : Index) (n : ℕ) → z ≢ Found i n) → is_found walked ≡ false
+        by (Found i n) q t = absurd (t i n refl)
         by (Missing i n) q t = unmet (is_found walked) (ap (λ (x : Answer). x.found) q) refl
         by (Beyond n) q t = absurd (omega (arith, ap (λ (x : Answer). x.number) q))
 
-    pub missing_words : OneOf (1 ∷ 2 ∷ []) (tag_of the_type r) → Kept (remove_key a k) w w (refused 9)
+    pub missing_words : ((i : Index) (n : ℕ) → r ≢ Found i n) → Kept (remove_key a k) w w (refused 9)
     missing_words h =
         let f = not_found h in
         record {

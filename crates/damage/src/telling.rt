@@ -1,5 +1,6 @@
 // A case as a line: its number, the clause of document 01 that is broken, what was broken, and what the check says.
-use libc::STDOUT_FILENO;
+// Standard output.
+const STDOUT_FILENO: i32 = 1;
 
 // The clauses of 'An arena passes the check', in its order.
 #[derive(Clone, Copy)]

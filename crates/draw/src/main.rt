@@ -10,11 +10,13 @@ mod sheet;
 mod svg;
 
 ghost use Rattle.std.specs.Prelude.{◌≡◌};
+ghost use Rattle.io.specs.Counts.{IsPrefixLen};
 ghost use Rattle.model.specs.Passes.{Passes};
 ghost use Rattle.script_line.specs.Lines.{Within};
 ghost use Rattle.draw.specs.Forms.{form_of};
 
 use script_line::{Line, Reading};
+use std::io::{Read, Stdin};
 
 // The names of the forms, as `script_line` reads them.
 const TEXT: u64 = 661268;
@@ -123,13 +125,22 @@ fn finish(numbers: &mut [u32], line: Line)
     }
 }
 
-fn turn(numbers: &mut [u32], line: Line) -> Desk
+// How many bytes have arrived, at the buffer's front: none at the end of the input, nor where it cannot be read.
+fn arrived(input: &mut Stdin, buffer: &mut [u8]) -> usize
+    ensures { IsPrefixLen result buffer.new }
+{
+    match input.read(buffer) {
+        Ok(n) => n,
+        Err(_) => 0,
+    }
+}
+
+fn turn(input: &mut Stdin, numbers: &mut [u32], line: Line) -> Desk
     requires { Within line numbers.old }
     ensures { Within result.line numbers.new }
 {
     let mut buffer = io::large_buffer();
-    let got = libc::read(0, &mut buffer);
-    let n = io::count(got, &buffer);
+    let n = arrived(input, &mut buffer);
     if n == 0 {
         finish(numbers, line);
         let blank = Line::new();
@@ -146,7 +157,7 @@ fn turn(numbers: &mut [u32], line: Line) -> Desk
 }
 
 // A proved loop has to end, and nothing says that the input does: the turns count up to a number that no run reaches.
-fn run(numbers: &mut [u32]) {
+fn run(input: &mut Stdin, numbers: &mut [u32]) {
     let blank = Line::new();
     let mut desk = Desk {
         line: blank,
@@ -155,7 +166,7 @@ fn run(numbers: &mut [u32]) {
     let mut turns: u64 = 0;
     while turns < u64::MAX {
         let line = desk.line;
-        desk = turn(numbers, line);
+        desk = turn(input, numbers, line);
         turns += 1;
         if !desk.open {
             return;
@@ -163,7 +174,8 @@ fn run(numbers: &mut [u32]) {
     }
 }
 
-fn main() {
+fn main(rt: HostRuntime) {
     let mut numbers = [0u32; 262144];
-    run(&mut numbers);
+    let mut input = rt.stdin();
+    run(&mut input, &mut numbers);
 }

@@ -9,11 +9,8 @@ use lib.Dec.{eqb}
 use lib.ListN.{length, take, get_or}
 use lib.Seq.{take-suc, take_all}
 use borrow.Author.Tests.{eq-eqb, ne_eqb}
-use types.Run.{OneOf}
-use denote.Enum.Declared.{tag_of}
 use native.Mathlib.Omega.{arith}
 use Rattle.shift_line.specs.declared.Part.{Part}
-use Rattle.shift_line.specs.contracts.Part.{the_type}
 use Rattle.shift_line.specs.declared.Part.TheVariants.{Nothing, ListDigits, Space, KeyDigits, Spoilt}
 use Rattle.shift_line.specs.declared.Line.{Line}
 use Rattle.shift_line.specs.declared.Entry.{Entry}
@@ -87,21 +84,13 @@ ended-begun Space s n = refl
 ended-begun KeyDigits s n = refl
 ended-begun Spoilt s n = refl
 
-pub ended-taken : {d r : Desk} {w u : List ℕ} → OneOf (1 ∷ 2 ∷ 3 ∷ 4 ∷ []) (tag_of the_type d.line.part) → Goes end_line d w u r → Goes ended d w u r
+pub ended-taken : {d r : Desk} {w u : List ℕ} → d.line.part ≢ Nothing → Goes end_line d w u r → Goes ended d w u r
 ended-taken {d} {r} {w} {u} o p = record {
   goes = λ x k.
-      let z : ended (midway x d) ≡ end_line (midway x d) = ended-begun d.line.part (midway x d) (not_nothing d.line.part o) in
+      let z : ended (midway x d) ≡ end_line (midway x d) = ended-begun d.line.part (midway x d) o in
       let (a, e) = p.goes x k in
       (subst (Holds u) (ap (λ m. m.shift.held) (sym z)) a, e ∙ ap desk_of (sym z));
 }
-  where
-    not_nothing : (q : Part) → OneOf (1 ∷ 2 ∷ 3 ∷ 4 ∷ []) (tag_of the_type q) → q ≢ Nothing
-    not_nothing q o e =
-        ⊎_elim (λ t. differs t) (λ x. ⊎_elim (λ t. differs t) (λ y. ⊎_elim (λ t. differs t) (λ t. differs t) y) x)
-        (subst (λ (z : Part). OneOf (1 ∷ 2 ∷ 3 ∷ 4 ∷ []) (tag_of the_type z)) e o)
-      where
-        differs : {n : ℕ} → 0 ≡ suc n → ⊥
-        differs t = omega (arith, t)
 
 -- ---- lines ----
 abbrev NoEnd : List ℕ → Type 0

@@ -40,13 +40,13 @@ module _ (line : Line) (b : ℕ) where
   number_spoilt part e = simp e
 
 -- the key's digits are not the last part
-pub unread : (line : Line) → OneOf (0 ∷ 1 ∷ 2 ∷ 4 ∷ []) (tag_of the_type line.part) → entry_of line ≡ Unread
+pub unread : (line : Line) → (line.part ≡ KeyDigits → ⊥) → entry_of line ≡ Unread
 unfolding entry_of
 unread line h = by line.part h
   where
-    by : (p : Part) → OneOf (0 ∷ 1 ∷ 2 ∷ 4 ∷ []) (tag_of the_type p) → entry_in p line ≡ Unread
+    by : (p : Part) → (p ≡ KeyDigits → ⊥) → entry_in p line ≡ Unread
     by Nothing o = refl
     by ListDigits o = refl
     by Space o = refl
-    by KeyDigits o = absurd (⊎_elim (λ q. omega arith) (λ o1. ⊎_elim (λ q. omega arith) (λ o2. ⊎_elim (λ q. omega arith) (λ q. omega arith) o2) o1) o)
+    by KeyDigits o = absurd (o refl)
     by Spoilt o = refl

@@ -9,4 +9,4 @@ unfolding entry_of
 returns-in-KeyDigits c = cc
 
 pub returns-in_default : goal.returns-in_default
-returns-in_default c = cc (unread c.args.line c.in-KeyDigits.keys2)
+returns-in_default c = cc (unread c.args.line c.in_default.not-KeyDigits)

@@ -19,11 +19,11 @@ returns-else-b-eq-SPACE c =
 
 pub returns-in-Space : goal.returns-in-Space
 returns-in-Space c =
-        c.digit-in-Space.ensures ∙ sym (key_begins c.args.line c.args.b c.enum_told-in-Space-1.given.1)
+        c.digit-in-Space.ensures ∙ sym (key_begins c.args.line c.args.b c.in-Space.is)
 
 pub returns-in-KeyDigits : goal.returns-in-KeyDigits
 returns-in-KeyDigits c =
-        c.digit-in-KeyDigits.ensures ∙ sym (key_goes-on c.args.line c.args.b c.enum_told-in-KeyDigits-1.given.1)
+        c.digit-in-KeyDigits.ensures ∙ sym (key_goes-on c.args.line c.args.b c.in-KeyDigits.is)
 
 pub returns-in-Spoilt : goal.returns-in-Spoilt
 unfolding stepped

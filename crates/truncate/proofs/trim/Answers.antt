@@ -1,0 +1,67 @@
+-- `truncate::trim` meets its contract: the list ends at the path, then the nodes behind are freed one by one, and the header says so.
+use Prim.Native.Nat.{ℕ, ◌-◌}
+use mathlib.Core.Path.{◌≡◌, ◌∙◌}
+use mathlib.Core.List.{List}
+use lib.ListN.{length}
+use native.Mathlib.Omega.{arith}
+use borrow.Author.Rules.{rules}
+use Rattle.model.specs.Passes.{nodes}
+use Rattle.arena.specs.Owners.{NodeThere}
+use Rattle.truncate.proofs.Ending.{both_there, ended}
+use Rattle.truncate.proofs.Freeing.{Freeing, head_cell, count_is, end-cell, long, more_than, total_fits}
+use Rattle.truncate.proofs.Freeing.{free_start, size_is, node_at, next-cell, free_turn, freed-all}
+use Rattle.truncate.proofs.trim.Goals as goal
+
+pub cell-count-requires : goal.cell-count-requires
+cell-count-requires c =
+        head_cell c.requires.0
+
+pub cell-requires : goal.cell-requires
+cell-requires c =
+        end-cell c.requires.0 c.requires.1.end
+
+pub end_chain-requires : goal.end_chain-requires
+end_chain-requires c =
+        both_there c.requires.0 c.requires.1.end c.end_links.ensures
+
+pub cell-requires-in-loop-i : goal.cell-requires-in-loop-i
+cell-requires-in-loop-i c =
+        let b = begun c in
+    let p = b.start.pre.0 in
+    next-cell p (let b = begun c in
+    let p = b.start.pre.0 in
+    c.loop-i.invariant _ _ p (count_is p b.count.cell.ensures) (started c)) (omega (arith, c.loop-i-test.true, count_is p b.count.cell.ensures))
+
+pub free_node-requires : goal.free_node-requires
+free_node-requires c =
+        let b = begun c in
+    let p = b.start.pre.0 in
+    node_at p (let b = begun c in
+    let p = b.start.pre.0 in
+    c.loop-i.invariant _ _ p (count_is p b.count.cell.ensures) (started c)) (omega (arith, c.loop-i-test.true, count_is p b.count.cell.ensures))
+
+pub loop-i-preserved : goal.loop-i-preserved
+loop-i-preserved c =
+        λ v a p e g.
+    free_turn p (c.loop-i.invariant v a p e g) (omega (arith, c.loop-i-test.true, e)) c.cell-in-loop-i.ensures
+    c.free_node.ensures c.free_node.kept.0
+
+pub overflow_sub-count : goal.overflow_sub-count
+overflow_sub-count c =
+        let b = begun c in
+    more_than b.start.pre.0 b.count.cell.ensures
+
+pub overflow_add-free : goal.overflow_add-free
+overflow_add-free c =
+        let b = begun c in
+    let l = total_fits b.start.pre.0 b.free.header2.ensures b.count.cell.ensures in record { fits = omega (arith, l) }
+
+pub returns : goal.returns
+returns c =
+        let b = begun c in
+    let p = b.start.pre.0 in
+    let count = b.count.cell.ensures in
+    freed-all p (let b = begun c in
+    let p = b.start.pre.0 in
+    c.loop-i.invariant _ _ p (count_is p b.count.cell.ensures) (started c)) (omega (arith, c.loop-i-test.false, count_is p count)) b.free.header2.ensures count
+    (rw c.put_header.ensures at c.put_header-2.ensures)

@@ -1,0 +1,20 @@
+-- `truncate::trim` meets its contract: the list ends at the path, then the nodes behind are freed one by one, and the header says so.
+use Prim.Native.Nat.{ℕ, ◌-◌}
+use mathlib.Core.Path.{◌≡◌, ◌∙◌}
+use mathlib.Core.List.{List}
+use lib.ListN.{length}
+use native.Mathlib.Omega.{arith}
+use borrow.Author.Rules.{rules}
+use Rattle.model.specs.Passes.{nodes}
+use Rattle.arena.specs.Owners.{NodeThere}
+use Rattle.truncate.proofs.Ending.{both_there, ended}
+use Rattle.truncate.proofs.Freeing.{Freeing, head_cell, count_is, end-cell, long, more_than, total_fits}
+use Rattle.truncate.proofs.Freeing.{free_start, size_is, node_at, next-cell, free_turn, freed-all}
+use Rattle.truncate.proofs.trim.Given as goal
+
+abbrev pub invariant-loop-i : goal.invariant-loop-i
+invariant-loop-i l =
+    (v : List ℕ) (a : ℕ) (p : NodeThere v l.m a l.n.0) → l.count ≡ length (nodes v a) → Freeing p l.initial.i l.initial.s.0 l.initial.front.0 l.initial.w → Freeing p l.i l.s.0 l.front.0 l.w
+
+abbrev pub decreases-loop-i : goal.decreases-loop-i
+decreases-loop-i l = l.count - l.i
