@@ -1,7 +1,7 @@
 -- The front of a slice, word by word. Rests on Fronts.
 use Prim.Native.Nat.{ℕ, zero, suc, ◌+◌, ◌≤◌, ◌<◌}
 use mathlib.Core.Bool.{Bool, true, false}
-use mathlib.Core.List.{List, ◌∷◌, ◌++◌}
+use mathlib.Core.List.{[], List, ◌∷◌, ◌++◌}
 use mathlib.Core.Path.{◌≡◌, refl, ap, ◌∙◌}
 use lib.ListN.{length, take, drop, set, get_or, replicate, length-replicate, get_or-replicate}
 use lib.Seq.{take_all}
@@ -14,6 +14,8 @@ set_next :
     → i < length front
     → i < length words
     → set (take i front ++ drop i words) i (get_or front i 0) ≡ take (suc i) front ++ drop (suc i) words
+set_next [] words i p q = absurd (omega arith)
+set_next (f ∷ front) [] i p q = absurd (omega arith)
 set_next (f ∷ front) (w ∷ words) zero p q = refl
 set_next (f ∷ front) (w ∷ words) (suc i) p q = ap (λ (r : List ℕ). f ∷ r) (set_next front words i (omega arith) (omega arith))
 

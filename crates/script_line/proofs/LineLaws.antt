@@ -70,12 +70,12 @@ module _ (line : Line) (b : ℕ) (numbers : List ℕ) (within : Within line numb
 
   pub number_begins : line.reading ≡ Gap → Stepped line b numbers (digited line b) numbers
   unfolding stepped kept
-  number_begins told = record { within = record { count = digited_count _ _ _ within.count }; reads = simp told; holds = simp told }
+  number_begins told = record { within = record { count = digited_count line b _ within.count }; reads = simp told; holds = simp told }
 
   pub number_goes-on : line.reading ≡ Digits → (b ≡ 32 → ⊥) → Stepped line b numbers (digited line b) numbers
   unfolding stepped kept
   number_goes-on told test =
-      record { within = record { count = digited_count _ _ _ within.count }; reads = simp (told, ne_eqb _ _ test); holds = simp (told, ne_eqb _ _ test) }
+      record { within = record { count = digited_count line b _ within.count }; reads = simp (told, ne_eqb _ _ test); holds = simp (told, ne_eqb _ _ test) }
 
   pub number-ends :
       line.reading ≡ Digits

@@ -26,42 +26,38 @@ end_chain-requires c =
 
 pub cell-requires-in-loop-i : goal.cell-requires-in-loop-i
 cell-requires-in-loop-i c =
-        let b = begun c in
-    let p = b.start.pre.0 in
-    next-cell p (let b = begun c in
-    let p = b.start.pre.0 in
-    c.loop-i.invariant _ _ p (count_is p b.count.cell.ensures) (started c)) (omega (arith, c.loop-i-test.true, count_is p b.count.cell.ensures))
+    let p = c.requires.0 in
+    let e = c.requires.1.end in
+    let count = count_is p c.cell-count.ensures in
+    let start = free_start p e c.cell.ensures c.header.ensures (ended p e c.end_links.ensures c.end_chain.ensures) in
+    next-cell p (c.loop-i.invariant _ _ p count start) (omega (arith, c.loop-i-test.true, count))
 
 pub free_node-requires : goal.free_node-requires
 free_node-requires c =
-        let b = begun c in
-    let p = b.start.pre.0 in
-    node_at p (let b = begun c in
-    let p = b.start.pre.0 in
-    c.loop-i.invariant _ _ p (count_is p b.count.cell.ensures) (started c)) (omega (arith, c.loop-i-test.true, count_is p b.count.cell.ensures))
+    let p = c.requires.0 in
+    let e = c.requires.1.end in
+    let count = count_is p c.cell-count.ensures in
+    let start = free_start p e c.cell.ensures c.header.ensures (ended p e c.end_links.ensures c.end_chain.ensures) in
+    node_at p (c.loop-i.invariant _ _ p count start) (omega (arith, c.loop-i-test.true, count))
 
 pub loop-i-preserved : goal.loop-i-preserved
 loop-i-preserved c =
-        λ v a p e g.
+    λ v a p e g.
     free_turn p (c.loop-i.invariant v a p e g) (omega (arith, c.loop-i-test.true, e)) c.cell-in-loop-i.ensures
-    c.free_node.ensures c.free_node.kept.0
+    c.free_node.ensures c.free_node.auto.w
 
 pub overflow_sub-count : goal.overflow_sub-count
-overflow_sub-count c =
-        let b = begun c in
-    more_than b.start.pre.0 b.count.cell.ensures
+overflow_sub-count c = more_than c.requires.0 c.cell-count.ensures
 
 pub overflow_add-free : goal.overflow_add-free
 overflow_add-free c =
-        let b = begun c in
-    let l = total_fits b.start.pre.0 b.free.header2.ensures b.count.cell.ensures in record { fits = omega (arith, l) }
+    let l = total_fits c.requires.0 c.header-free.ensures c.cell-count.ensures in record { fits = omega (arith, l) }
 
 pub returns : goal.returns
 returns c =
-        let b = begun c in
-    let p = b.start.pre.0 in
-    let count = b.count.cell.ensures in
-    freed-all p (let b = begun c in
-    let p = b.start.pre.0 in
-    c.loop-i.invariant _ _ p (count_is p b.count.cell.ensures) (started c)) (omega (arith, c.loop-i-test.false, count_is p count)) b.free.header2.ensures count
+    let p = c.requires.0 in
+    let e = c.requires.1.end in
+    let count = count_is p c.cell-count.ensures in
+    let start = free_start p e c.cell.ensures c.header.ensures (ended p e c.end_links.ensures c.end_chain.ensures) in
+    freed-all p (c.loop-i.invariant _ _ p count start) (omega (arith, c.loop-i-test.false, count)) c.header-free.ensures c.cell-count.ensures
     (rw c.put_header.ensures at c.put_header-2.ensures)

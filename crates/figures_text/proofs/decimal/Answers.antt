@@ -1,0 +1,12 @@
+-- `figures_text::decimal` meets its contract: what `io::decimal` spells is copied.
+use borrow.Author.Rules.{rules}
+use Rattle.figures_text.proofs.Decimals.{spelt}
+use Rattle.figures_text.proofs.decimal.Goals as goal
+
+pub bytes-requires : goal.bytes-requires
+bytes-requires c =
+        rw (spelt c.args.n _ (search rules) c.decimal-k.ensures.1.0 c.decimal-k.ensures.1.1) c.requires
+
+pub returns : goal.returns
+returns c =
+        rw (spelt c.args.n _ (search rules) c.decimal-k.ensures.1.0 c.decimal-k.ensures.1.1) at c.bytes.ensures

@@ -1,0 +1,19 @@
+-- `join::join_links` meets its contract: after l turns the links of the levels below l are as after the join.
+use Prim.Native.Nat.{ℕ, ◌-◌, ◌≤◌}
+use mathlib.Core.Path.{◌≡◌}
+use lib.ListN.{length}
+use native.Mathlib.Omega.{arith}
+use borrow.Author.Rules.{rules}
+use Rattle.model.specs.Passes.{nodes}
+use Rattle.arena.specs.Owners.{Before}
+use Rattle.level_links.proofs.AfterLinks.{links_done, relinked_size}
+use Rattle.join.specs.Joins.{Joins}
+use Rattle.join.proofs.JoinLinks.{JoinLevels, no_level, rank_le, level_joins, next_level}
+use Rattle.join.proofs.join_links.Given as goal
+
+abbrev pub invariant-loop-l : goal.invariant-loop-l
+invariant-loop-l l =
+    ((a : ℕ) (p : Joins l.initial.w l.m a l.from.0) → l.n ≡ length (nodes l.initial.w a) → Before l.initial.w l.m a (length (nodes l.initial.w a)) l.slots l.ranks → JoinLevels p l.l l.w) × (l.l ≤ l.m)
+
+abbrev pub decreases-loop-l : goal.decreases-loop-l
+decreases-loop-l l = l.m - l.l
