@@ -8,7 +8,7 @@ use lib.ListN.{length, get_or}
 use borrow.Author.Tests.{ne_eqb}
 use Rattle.model.specs.Arena.{State, list_of}
 use Rattle.model.specs.Calls.{Call, search, read, remove_key, remove_index, middle, refusal, searched, keyed, refused, accepted, declined, answer_to}
-use Rattle.model.specs.Nodes.{Node, at, key_at, keys, smaller, smaller_keys}
+use Rattle.model.specs.Nodes.{Node, key_at, keys, smaller, smaller_keys}
 use Rattle.model.specs.Passes.{Sound}
 use Rattle.model.specs.Walks.{ended, is_found, key_walk}
 use Rattle.model.proofs.Allowed.{allowed}

@@ -11,7 +11,7 @@ use borrow.Author.Tests.{le-leb, lt-leb}
 use Rattle.model.specs.Arena.{width, to_column, State, head_words, node_words, free_words, first_slot, first_free, encode}
 use Rattle.model.specs.Cells.{record_at, cell_at, link_at}
 use Rattle.model.specs.Links.{link_words, link_of, absent_link}
-use Rattle.model.specs.Nodes.{Node, node, Sorted, Low}
+use Rattle.model.specs.Nodes.{Node, Sorted, Low}
 use Rattle.model.specs.Passes.{decode, nodes, times, times_all, times_free, Sound, Passes, Chained, Clauses}
 use Rattle.model.proofs.Builds.{Reads-as, words_are}
 use Rattle.model.proofs.Chained.{stands, stands_free, chain_out, free_out, none-all, each_all, free_field, chained-none, chained_more}

@@ -1,6 +1,6 @@
 -- "What each operation leaves", as key sequences: what list a holds after each accepted call, said of the keys before.
 -- Rests on EveryCall, Keys (an append keeps every key as often) and Searching (the number of smaller keys).
-use Prim.Native.Nat.{ℕ, zero, suc, ◌+◌, ◌<◌}
+use Prim.Native.Nat.{ℕ, zero, suc, ◌<◌}
 use mathlib.Core.Path.{◌≡◌, refl, sym, ap, ap₂, ◌∙◌}
 use mathlib.Core.Logic.{◌≢◌}
 use mathlib.Core.List.{List, [], ◌∷◌, ◌++◌, map-append}

@@ -4,7 +4,7 @@ use Prim.Native.Nat.{ℕ, suc, ◌+◌, ◌*◌, ◌^◌, ◌≤◌, ◌<◌}
 use mathlib.Core.Path.{◌≡◌, refl, ap}
 use mathlib.Core.Logic.{◌≢◌}
 use mathlib.Core.List.{List, [], ◌∷◌}
-use lib.ListN.{length, take, replicate, get_or-replicate, length-replicate, get_or-eq_default}
+use lib.ListN.{length, take, get_or-replicate, length-replicate, get_or-eq_default}
 use lib.Seq.{get_or-set_same}
 use native.Mathlib.Omega.{arith}
 use Rattle.model.specs.Arena.{State, list_of, encode, set_up}

@@ -9,6 +9,13 @@ ghost use Rattle.report.specs.declared.Input.TheVariants.{Open, Ended};
 ghost use Rattle.report.specs.Texts.{Onward, Begun, Whole};
 
 use shift::Desk;
+use std::alloc::Global;
+use std::env;
+use std::fs::File;
+use std::io::{Error, ErrorKind, Read, Write};
+
+// Standard error.
+const STDERR: i32 = 2;
 
 // A proved loop has to end, and nothing says that the input does: reads and bytes count up to this number, which no run reaches.
 const MOST: u64 = u64::MAX - 65537;
@@ -29,43 +36,68 @@ pub struct Taken {
     pub spent: u64,
 }
 
+// How long a fault's text is without the number that std writes behind it, as in "Is a directory (os error 21)".
+fn text_length(said: &[u8]) -> usize
+    ensures { IsPrefixLen result said.now }
+{
+    for (i, b) in said.iter().enumerate() {
+        if *b == b'(' && i > 0 {
+            return i - 1;
+        }
+    }
+    said.len()
+}
+
 // Tells what failed, and why.
-fn fail(what: &[u8]) {
-    io::write_all(libc::STDERR_FILENO, b"report: ");
-    os::fail(what);
+fn fail(alloc: Global, what: &[u8], fault: &Error) {
+    io::write_all(STDERR, b"report: ");
+    io::write_all(STDERR, what);
+    io::write_all(STDERR, b": ");
+    match format!(in alloc; "{fault}") {
+        Ok(text) => {
+            let said = text.as_bytes();
+            let n = text_length(said);
+            io::write_all(STDERR, &said[..n]);
+        }
+        Err(_) => {
+            io::write_all(STDERR, b"Cannot allocate memory");
+        }
+    }
+    io::write_all(STDERR, b"\n");
 }
 
 // A read that a signal broke off is made again.
-fn fault(name: &[u8]) -> Input {
-    if os::errno() == libc::EINTR {
+fn fault(alloc: Global, name: &[u8], fault: &Error) -> Input {
+    if fault.kind() == ErrorKind::Interrupted {
         return Input::Open;
     }
-    fail(name);
+    fail(alloc, name, fault);
     Input::Failed
 }
 
 // Takes what has arrived.
-fn piece(words: &mut [u32], desk: Desk, fd: i32, name: &[u8]) -> Taken
+fn piece<R: Read>(alloc: Global, words: &mut [u32], desk: Desk, from: &mut R, name: &[u8]) -> Taken
     ensures { Onward result.spent desk words.old result.desk words.new × (1 ≤ result.spent) × (result.spent ≤ 65537) }
 {
     let mut buffer = io::large_buffer();
-    let got = libc::read(fd, &mut buffer);
-    if got < 0 {
-        let input = fault(name);
-        return Taken {
-            desk,
-            input,
-            spent: 1,
-        };
-    }
-    if got == 0 {
+    let n = match from.read(&mut buffer) {
+        Ok(n) => n,
+        Err(e) => {
+            let input = fault(alloc, name, &e);
+            return Taken {
+                desk,
+                input,
+                spent: 1,
+            };
+        }
+    };
+    if n == 0 {
         return Taken {
             desk,
             input: Input::Ended,
             spent: 1,
         };
     }
-    let n = io::count(got, &buffer);
     let fed = shift::feed(words, desk, &buffer[..n]);
     Taken {
         desk: fed,
@@ -75,14 +107,14 @@ fn piece(words: &mut [u32], desk: Desk, fd: i32, name: &[u8]) -> Taken
 }
 
 // Takes piece after piece, to the end of the text or a fault.
-fn pieces(words: &mut [u32], fd: i32, name: &[u8]) -> Taken
+fn pieces<R: Read>(alloc: Global, words: &mut [u32], from: &mut R, name: &[u8]) -> Taken
     ensures onward { Onward result.spent empty words.old result.desk words.new }
     ensures le_spent { result.input ≡ Open → 18446744073709486078 ≤ result.spent }
 {
     let mut desk = Desk::new();
     let mut spent: u64 = 0;
     while spent < MOST {
-        let taken = piece(words, desk, fd, name);
+        let taken = piece(alloc, words, desk, from, name);
         desk = taken.desk;
         spent += taken.spent;
         let input = taken.input;
@@ -108,60 +140,66 @@ fn text(words: &mut [u32], desk: Desk, out: &mut [u8]) -> usize
 }
 
 // Standard output gets whole reports alone.
-fn write(report: &[u8])
+fn write(rt: &HostRuntime, report: &[u8])
     requires { Whole report.now }
 {
-    if !io::write_all(libc::STDOUT_FILENO, report) {
-        fail(b"standard output");
+    let mut out = rt.stdout();
+    match out.write_all(report) {
+        Ok(()) => {}
+        Err(e) => fail(rt.alloc(), b"standard output", &e),
     }
 }
 
 // A text that was read to its end is reported.
-fn print(words: &mut [u32], taken: Taken)
+fn print(rt: &HostRuntime, words: &mut [u32], taken: Taken)
     requires { Begun taken.desk words.old × (taken.input ≡ Ended) }
 {
     let mut out = [0u8; shift::ROOM];
     let n = text(words, taken.desk, &mut out);
-    write(&out[..n]);
+    write(rt, &out[..n]);
 }
 
-// Reports on what the descriptor gives. A fault is told by the name.
-fn report(fd: i32, name: &[u8]) {
+// Reports on what is read. A fault is told by the name.
+fn report<R: Read>(rt: &HostRuntime, from: &mut R, name: &[u8]) {
     let mut words = [0u32; shift::WORDS];
     shift::set_up(&mut words);
-    let taken = pieces(&mut words, fd, name);
+    let taken = pieces(rt.alloc(), &mut words, from, name);
     let input = taken.input;
     match input {
-        Input::Ended => print(&mut words, taken),
+        Input::Ended => print(rt, &mut words, taken),
         _ => {}
     }
 }
 
-fn named() {
-    let mut path = io::buffer();
-    let n = os::arg(1, &mut path);
-    if os::errno() != 0 {
-        fail(b"the file's name");
-        return;
+fn named(rt: &HostRuntime, path: &str) {
+    match File::open(rt, path) {
+        Ok(file) => {
+            let mut from = file;
+            report(rt, &mut from, path.as_bytes());
+        }
+        Err(e) => fail(rt.alloc(), path.as_bytes(), &e),
     }
-    let fd = os::open_read(&path[..n]);
-    if fd < 0 {
-        fail(&path[..n]);
-        return;
-    }
-    report(fd, &path[..n]);
-    libc::close(fd);
 }
 
-fn main() {
-    let words = os::arg_count();
-    if words > 2 {
-        io::write_all(libc::STDERR_FILENO, b"report: one file at a time\n");
+fn main(rt: HostRuntime) {
+    let mut words = match env::args(&rt) {
+        Ok(words) => words,
+        Err(e) => {
+            fail(rt.alloc(), b"the file's name", &e);
+            return;
+        }
+    };
+    let _ = words.next();
+    let name = words.next();
+    if words.next().is_some() {
+        io::write_all(STDERR, b"report: one file at a time\n");
         return;
     }
-    if words == 2 {
-        named();
-        return;
+    match name {
+        Some(path) => named(&rt, path.as_str()),
+        None => {
+            let mut from = rt.stdin();
+            report(&rt, &mut from, b"standard input");
+        }
     }
-    report(libc::STDIN_FILENO, b"standard input");
 }

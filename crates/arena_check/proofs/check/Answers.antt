@@ -1,5 +1,4 @@
 -- `arena_check::check` meets its contract: whole words are those of an arena that passes.
-use borrow.Author.Rules.{rules}
 use Rattle.arena_check.proofs.WholePasses.{promise}
 use Rattle.arena_check.proofs.check.Goals as goal
 

@@ -1,12 +1,8 @@
 -- `figures_text::bytes` meets its contract. The loop's invariant: the first i bytes are copied.
 use Prim.Native.Nat.{◌≤◌, ◌-◌}
 use mathlib.Core.Path.{◌≡◌}
-use lib.ListN.{length, length-set}
-use lib.Seq.{paste, paste-zero, paste-suc}
-use borrow.Author.Rules.{rules}
-use native.Mathlib.Numerals.{add-one}
-use native.Mathlib.Omega.{arith}
-use Rattle.figures_text.proofs.Putting.{all}
+use lib.ListN.{length}
+use lib.Seq.{paste}
 use Rattle.figures_text.proofs.bytes.Given as goal
 
 abbrev pub invariant-loop-i : goal.invariant-loop-i

@@ -5,8 +5,8 @@ use Rattle.figures_text.proofs.decimal.Goals as goal
 
 pub bytes-requires : goal.bytes-requires
 bytes-requires c =
-        rw (spelt c.args.n _ (search rules) c.decimal-k.ensures.1.0 c.decimal-k.ensures.1.1) c.requires
+    rw (spelt c.args.n _ (search rules) c.decimal-k.ensures.1.0 c.decimal-k.ensures.1.1) c.requires
 
 pub returns : goal.returns
 returns c =
-        rw (spelt c.args.n _ (search rules) c.decimal-k.ensures.1.0 c.decimal-k.ensures.1.1) at c.bytes.ensures
+    rw (spelt c.args.n _ (search rules) c.decimal-k.ensures.1.0 c.decimal-k.ensures.1.1) at c.bytes.ensures

@@ -1,8 +1,6 @@
 -- `free_node::free_node` meets its contract: after l turns the links below l are absent, and behind the height they all are.
 use Prim.Native.Nat.{◌-◌, ◌≤◌}
-use native.Mathlib.Omega.{arith}
-use borrow.Author.Rules.{rules}
-use Rattle.free_node.proofs.NodeForm.{LinksGone, none-gone, one_more, freed}
+use Rattle.free_node.proofs.NodeForm.{LinksGone}
 use Rattle.free_node.proofs.free_node.Given as goal
 
 abbrev pub invariant-loop-l : goal.invariant-loop-l

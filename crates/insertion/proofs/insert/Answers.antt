@@ -1,10 +1,8 @@
 -- `insertion::insert` meets its contract: the walk by key leads to the number of smaller keys, where the keys stay in order.
-use mathlib.Core.Path.{◌∙◌}
-use borrow.Author.Rules.{rules}
-use Rattle.insertion.proofs.KeyPlace.{goes_in, as-inserted}
+use Rattle.insertion.proofs.KeyPlace.{goes_in}
 use Rattle.insertion.proofs.insert.Goals as goal
 
 pub insert_before-requires : goal.insert_before-requires
 insert_before-requires c =
-        let place = c.find-trail.ensures.place in
+    let place = c.find-trail.ensures.place in
     (goes_in c.requires.0 _ _ c.requires.1.1 place c.requires.1.0, rw place c.find-trail.ensures.leads)

@@ -1,28 +1,27 @@
 -- `items::item_of` meets its contract: `words` by itself, any other name by the table of its count.
 use borrow.Author.Tests.{eq-eqb, ne_eqb}
 use Rattle.items.specs.Tables.{item_of}
-use borrow.Author.Rules.{rules}
 use Rattle.items.proofs.item_of.Goals as goal
 
 pub returns-then-count-eq0 : goal.returns-then-count-eq0
 unfolding item_of
 returns-then-count-eq0 c =
-        simp (eq-eqb _ _ c.if-name-eq-WORDS.true, eq-eqb _ _ c.if-count-eq0.true)
+    simp (eq-eqb _ _ c.if-name-eq-WORDS.true, eq-eqb _ _ c.if-count-eq0.true)
 
 pub returns-then-name-eq-WORDS : goal.returns-then-name-eq-WORDS
 unfolding item_of
 returns-then-name-eq-WORDS c =
-        simp (eq-eqb _ _ c.if-name-eq-WORDS.true, ne_eqb _ _ c.if-count-eq0.false)
+    simp (eq-eqb _ _ c.if-name-eq-WORDS.true, ne_eqb _ _ c.if-count-eq0.false)
 
 pub returns-then-count-eq0-2 : goal.returns-then-count-eq0-2
 unfolding item_of
 returns-then-count-eq0-2 c =
-        simp (ne_eqb _ _ c.if-name-eq-WORDS.false, eq-eqb _ _ c.if-count-eq0-2.true) c.with_none.ensures
+    simp (ne_eqb _ _ c.if-name-eq-WORDS.false, eq-eqb _ _ c.if-count-eq0-2.true) c.with_none.ensures
 
 pub returns-then-count-eq1 : goal.returns-then-count-eq1
 unfolding item_of
 returns-then-count-eq1 c =
-        simp (
+    simp (
       ne_eqb _ _ c.if-name-eq-WORDS.false,
       ne_eqb _ _ c.if-count-eq0-2.false,
       eq-eqb _ _ c.if-count-eq1.true,
@@ -31,7 +30,7 @@ returns-then-count-eq1 c =
 pub returns-then-count-eq2 : goal.returns-then-count-eq2
 unfolding item_of
 returns-then-count-eq2 c =
-        simp (
+    simp (
       ne_eqb _ _ c.if-name-eq-WORDS.false,
       ne_eqb _ _ c.if-count-eq0-2.false,
       ne_eqb _ _ c.if-count-eq1.false,
@@ -41,7 +40,7 @@ returns-then-count-eq2 c =
 pub returns-then-count-eq3 : goal.returns-then-count-eq3
 unfolding item_of
 returns-then-count-eq3 c =
-        simp (
+    simp (
       ne_eqb _ _ c.if-name-eq-WORDS.false,
       ne_eqb _ _ c.if-count-eq0-2.false,
       ne_eqb _ _ c.if-count-eq1.false,
@@ -52,7 +51,7 @@ returns-then-count-eq3 c =
 pub returns : goal.returns
 unfolding item_of
 returns c =
-        simp (
+    simp (
       ne_eqb _ _ c.if-name-eq-WORDS.false,
       ne_eqb _ _ c.if-count-eq0-2.false,
       ne_eqb _ _ c.if-count-eq1.false,

@@ -1,14 +1,8 @@
 -- `join::join_links` meets its contract: after l turns the links of the levels below l are as after the join.
-use Prim.Native.Nat.{ℕ, ◌-◌, ◌≤◌}
-use mathlib.Core.Path.{◌≡◌}
-use lib.ListN.{length}
+use Prim.Native.Nat.{◌-◌}
 use native.Mathlib.Omega.{arith}
-use borrow.Author.Rules.{rules}
-use Rattle.model.specs.Passes.{nodes}
-use Rattle.arena.specs.Owners.{Before}
-use Rattle.level_links.proofs.AfterLinks.{links_done, relinked_size}
-use Rattle.join.specs.Joins.{Joins}
-use Rattle.join.proofs.JoinLinks.{JoinLevels, no_level, rank_le, level_joins, next_level}
+use Rattle.level_links.proofs.AfterLinks.{links_done}
+use Rattle.join.proofs.JoinLinks.{no_level, rank_le, level_joins, next_level}
 use Rattle.join.proofs.join_links.Goals as goal
 
 pub loop-l-init : goal.loop-l-init
@@ -16,21 +10,20 @@ loop-l-init c = ((λ a p en q. no_level p), omega arith)
 
 pub overflow_sub-by : goal.overflow_sub-by
 overflow_sub-by c =
-        rank_le c.requires.joins.0 c.requires.n_value c.requires.joins.1.before c.loop-l-test.true
+    rank_le c.requires.joins.0 c.requires.n_value c.requires.joins.1.before c.loop-l-test.true
 
 pub join_level-requires : goal.join_level-requires
 join_level-requires c =
-        let p = c.requires.joins.0 in
+    let p = c.requires.joins.0 in
     let q = c.requires.joins.1.before in
     level_joins p c.requires.n_value q c.loop-l-test.true (c.loop-l.invariant.0 _ p c.requires.n_value q)
 
 pub loop-l-preserved : goal.loop-l-preserved
-loop-l-preserved c =
-    (
-      (λ a p en q. next_level p en q c.loop-l-test.true (c.loop-l.invariant.0 a p en q) c.join_level.ensures),
-      omega (arith, c.loop-l-test.true),
-    )
+loop-l-preserved c = (
+  (λ a p en q. next_level p en q c.loop-l-test.true (c.loop-l.invariant.0 a p en q) c.join_level.ensures),
+  omega (arith, c.loop-l-test.true),
+)
 
 pub returns : goal.returns
 returns c =
-        links_done (c.loop-l.invariant.0 _ c.requires.joins.0 c.requires.n_value c.requires.joins.1.before) c.loop-l.invariant.1 c.loop-l-test.false
+    links_done (c.loop-l.invariant.0 _ c.requires.joins.0 c.requires.n_value c.requires.joins.1.before) c.loop-l.invariant.1 c.loop-l-test.false

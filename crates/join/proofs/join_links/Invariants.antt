@@ -2,13 +2,10 @@
 use Prim.Native.Nat.{ℕ, ◌-◌, ◌≤◌}
 use mathlib.Core.Path.{◌≡◌}
 use lib.ListN.{length}
-use native.Mathlib.Omega.{arith}
-use borrow.Author.Rules.{rules}
 use Rattle.model.specs.Passes.{nodes}
 use Rattle.arena.specs.Owners.{Before}
-use Rattle.level_links.proofs.AfterLinks.{links_done, relinked_size}
 use Rattle.join.specs.Joins.{Joins}
-use Rattle.join.proofs.JoinLinks.{JoinLevels, no_level, rank_le, level_joins, next_level}
+use Rattle.join.proofs.JoinLinks.{JoinLevels}
 use Rattle.join.proofs.join_links.Given as goal
 
 abbrev pub invariant-loop-l : goal.invariant-loop-l

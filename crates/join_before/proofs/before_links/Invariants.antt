@@ -1,14 +1,9 @@
 -- `join_before::before_links` meets its contract: after l turns the links of the levels below l are as after the join before.
 use Prim.Native.Nat.{◌-◌, ◌≤◌}
 use lib.ListN.{take}
-use native.Mathlib.Omega.{arith}
-use borrow.Author.Rules.{rules}
 use Rattle.model.specs.Passes.{decode}
 use Rattle.arena.proofs.Relink.{Relinked}
-use Rattle.level_links.proofs.AfterLinks.{links_done, relinked_size}
 use Rattle.join_before.specs.Preceded.{do_join_before}
-use Rattle.join_before.proofs.BeforeLinks.{no_level, b_link_in, next_level}
-use Rattle.join.proofs.JoinLinks.{rank_le, level_joins}
 use Rattle.join_before.proofs.before_links.Given as goal
 
 abbrev pub invariant-loop-l : goal.invariant-loop-l

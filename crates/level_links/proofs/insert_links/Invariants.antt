@@ -1,14 +1,11 @@
 -- `level_links::insert_links` meets its contract: after l turns the links of the levels below l are those of the new model.
 use Prim.Native.Nat.{ℕ, ◌-◌, ◌≤◌}
 use mathlib.Core.Path.{◌≡◌}
-use native.Mathlib.Omega.{arith}
-use borrow.Author.Rules.{rules}
 use lib.ListN.{take}
 use Rattle.model.specs.Passes.{decode}
 use Rattle.arena.specs.Owners.{Before}
 use Rattle.arena.proofs.Relink.{Relinked}
 use Rattle.level_links.specs.AtIndex.{inserted_at, CanInsert}
-use Rattle.level_links.proofs.InsertLinks.{insert_start, insert_size, insert-end, rank_le, level_fits, insert_turn}
 use Rattle.level_links.proofs.insert_links.Given as goal
 
 abbrev pub invariant-loop-l : goal.invariant-loop-l

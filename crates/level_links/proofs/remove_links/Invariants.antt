@@ -1,15 +1,12 @@
 -- `level_links::remove_links` meets its contract: after l turns the links of the levels below l are those of the new model.
 use Prim.Native.Nat.{ℕ, ◌-◌, ◌≤◌}
 use mathlib.Core.Path.{◌≡◌}
-use native.Mathlib.Omega.{arith}
-use borrow.Author.Rules.{rules}
 use lib.ListN.{take}
 use Rattle.model.specs.Calls.{do_remove}
 use Rattle.model.specs.Passes.{decode}
 use Rattle.arena.specs.Owners.{Before, NodeThere}
 use Rattle.arena.proofs.Relink.{Relinked}
 use Rattle.level_links.specs.AtIndex.{NodeIs}
-use Rattle.level_links.proofs.RemoveLinks.{remove_start, remove_size, remove_end, rank_le, level_fits, remove_turn}
 use Rattle.level_links.proofs.remove_links.Given as goal
 
 abbrev pub invariant-loop-l : goal.invariant-loop-l

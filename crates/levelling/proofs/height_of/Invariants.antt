@@ -1,10 +1,7 @@
 -- `levelling::height_of` meets its contract: what is counted and what is left of the halving make the whole.
-use borrow.Author.Rules.{rules}
 use Prim.Native.Nat.{◌+◌}
 use mathlib.Core.Path.{◌≡◌}
-use native.Mathlib.Omega.{arith}
 use Rattle.model.specs.Lists.{twos}
-use Rattle.levelling.proofs.Heights.{odd_stop, even_turn, none_left}
 use Rattle.levelling.proofs.height_of.Given as goal
 
 abbrev pub invariant-loop-left : goal.invariant-loop-left

@@ -1,9 +1,7 @@
 -- `merge::merge` meets its contract: what is left to merge leads to the same; each turn moves one node.
 use lib.ListN.{length}
-use native.Mathlib.Omega.{arith}
-use borrow.Author.Rules.{rules}
 use Rattle.model.specs.Passes.{nodes}
-use Rattle.merge.proofs.Merging.{fewer, Merging, merge_turn, merge_done}
+use Rattle.merge.proofs.Merging.{Merging}
 use Rattle.merge.proofs.merge.Given as goal
 
 abbrev pub invariant-loop-a : goal.invariant-loop-a

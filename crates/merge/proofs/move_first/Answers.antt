@@ -1,16 +1,15 @@
 -- `merge::move_first` meets its contract: the removal leaves words that pass, with the slot free, and the insertion goes on from them.
-use borrow.Author.Rules.{rules}
 use Rattle.merge.proofs.Merging.{low_enough, a-listed, slot_free, moved_is}
 use Rattle.merge.proofs.move_first.Goals as goal
 
 pub insert-requires : goal.insert-requires
 insert-requires c =
-        let (p, some) = c.requires in
+    let (p, some) = c.requires in
     let words = c.remove_at-key.ensures.0 in
     (a-listed p some words, (low_enough p some c.first_height-height.ensures, slot_free p some words))
 
 pub returns : goal.returns
 returns c =
-        let (p, some) = c.requires in
+    let (p, some) = c.requires in
     let (words, key) = c.remove_at-key.ensures in
     moved_is p some words key c.first_height-height.ensures c.insert.ensures

@@ -1,8 +1,5 @@
 -- `script_line::number` meets its contract: the number is put where the count says, if that lies in the slice.
-use lib.Seq.{set_out}
-use mathlib.Core.Path.{sym, refl}
 use Rattle.script_line.proofs.ByteLaws.{number_in, number_past}
-use borrow.Author.Rules.{rules}
 use Rattle.script_line.proofs.number.Goals as goal
 
 pub returns-then-at-numbers-clause-value : goal.returns-then-at-numbers-clause-value

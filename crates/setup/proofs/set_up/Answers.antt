@@ -1,13 +1,9 @@
 -- `setup::set_up` meets its contract: a slice that fits is filled record by record, then its header; any other is left alone.
-use native.Mathlib.Omega.{arith}
-use borrow.Author.Rules.{rules}
-use Rattle.model.specs.Calls.{Room}
-use lib.ListN.{length}
 use Rattle.arena.proofs.Deciding.{yes}
-use Rattle.setup.proofs.Writing.{new_arena, set_up_accepted, set_up_refused}
+use Rattle.setup.proofs.Writing.{new_arena, set_up_accepted}
 use Rattle.setup.proofs.set_up.Goals as goal
 
 pub returns-then-fits : goal.returns-then-fits
 returns-then-fits c =
-        let r = (    yes c.fits.ensures c.if-fits.true) in
+    let r = (yes c.fits.ensures c.if-fits.true) in
     set_up_accepted r (new_arena r c.write_records.ensures c.write_header.ensures)

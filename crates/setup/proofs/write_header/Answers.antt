@@ -1,8 +1,5 @@
 -- `setup::write_header` meets its contract: eight stores from the front.
 use mathlib.Core.Path.{refl}
-use lib.ListN.{length-set}
-use native.Mathlib.Omega.{arith}
-use borrow.Author.Rules.{rules}
 use Rattle.setup.proofs.NewModel.{header-set, header_new}
 use Rattle.setup.proofs.write_header.Goals as goal
 

@@ -1,10 +1,6 @@
 -- `setup::write_record` meets its contract. The loop's invariant: the links of the levels passed are written, whatever the front is.
 use Prim.Native.Nat.{◌-◌, ◌≤◌}
-use borrow.Author.Rules.{rules}
-use mathlib.Core.Path.{◌∙◌}
-use native.Mathlib.Omega.{arith}
 use Rattle.model.specs.Arena.{to_column}
-use Rattle.setup.proofs.Writing.{front-written, no_links_written, still_lies, link_lies, link_written, all-written}
 use Rattle.setup.specs.NewRecords.{bare_record, Written}
 use Rattle.setup.specs.declared.Front.{Front}
 use Rattle.setup.proofs.write_record.Given as goal

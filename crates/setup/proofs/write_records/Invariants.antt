@@ -1,8 +1,5 @@
 -- `setup::write_records` meets its contract: a record a turn.
 use Prim.Native.Nat.{◌-◌, ◌≤◌}
-use borrow.Author.Rules.{rules}
-use native.Mathlib.Omega.{arith}
-use Rattle.setup.proofs.Writing.{new_none, new_inside, new_more, new_all}
 use Rattle.setup.specs.NewRecords.{FirstNew}
 use Rattle.setup.proofs.write_records.Given as goal
 

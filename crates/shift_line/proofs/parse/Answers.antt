@@ -1,6 +1,5 @@
 -- `shift_line::parse` meets its contract: digits of a key end a line that parses, nothing else does.
 use Rattle.shift_line.proofs.StepLaws.{unread}
-use borrow.Author.Rules.{rules}
 use Rattle.shift_line.specs.Reads.{entry_of}
 use Rattle.shift_line.proofs.parse.Goals as goal
 

@@ -1,12 +1,9 @@
 -- `split::split_links` meets its contract: after l turns the links of the levels below l are as after the split.
 use Prim.Native.Nat.{ℕ, ◌-◌, ◌≤◌}
 use mathlib.Core.Path.{◌≡◌}
-use native.Mathlib.Omega.{arith}
-use borrow.Author.Rules.{rules}
 use Rattle.arena.specs.Owners.{Before}
-use Rattle.level_links.proofs.AfterLinks.{links_done, relinked_size}
 use Rattle.split.specs.Splits.{Splits}
-use Rattle.split.proofs.SplitLinks.{SplitLevels, no_level, rank_le, both_links, next_level}
+use Rattle.split.proofs.SplitLinks.{SplitLevels}
 use Rattle.split.proofs.split_links.Given as goal
 
 abbrev pub invariant-loop-l : goal.invariant-loop-l

@@ -1,12 +1,7 @@
 -- `truncate::end_links` meets its contract: after l turns the links of the levels below l are those of the shortened list.
-use Prim.Native.Nat.{ℕ, ◌-◌, ◌≤◌}
-use mathlib.Core.List.{List}
+use Prim.Native.Nat.{◌-◌}
 use native.Mathlib.Omega.{arith}
-use borrow.Author.Rules.{rules}
-use Rattle.model.specs.Arena.{to_column}
-use Rattle.arena.specs.Owners.{Before, NodeThere}
-use Rattle.arena.specs.declared.Rank.{Rank}
-use Rattle.truncate.proofs.Ending.{ChainEnded, none-ended, same_size, precursor_link, level_ended, unlinked}
+use Rattle.truncate.proofs.Ending.{none-ended, precursor_link, level_ended, unlinked}
 use Rattle.truncate.proofs.end_links.Goals as goal
 
 pub loop-l-init : goal.loop-l-init
@@ -14,18 +9,17 @@ loop-l-init c = ((λ a n p ranks q. none-ended p), omega arith)
 
 pub put_link-requires : goal.put_link-requires
 put_link-requires c =
-        let p = c.requires.0 in
+    let p = c.requires.0 in
     let q = c.requires.1.before in
     precursor_link p q (c.loop-l.invariant.0 _ _ p _ q) c.loop-l-test.true
 
 pub loop-l-preserved : goal.loop-l-preserved
-loop-l-preserved c =
-    (
-      (λ a n p ranks q. level_ended p q (c.loop-l.invariant.0 a n p ranks q) c.loop-l-test.true c.put_link.ensures),
-      omega (arith, c.loop-l-test.true),
-    )
+loop-l-preserved c = (
+  (λ a n p ranks q. level_ended p q (c.loop-l.invariant.0 a n p ranks q) c.loop-l-test.true c.put_link.ensures),
+  omega (arith, c.loop-l-test.true),
+)
 
 pub returns : goal.returns
 returns c =
-        let p = c.requires.0 in
+    let p = c.requires.0 in
     unlinked p (c.loop-l.invariant.0 _ _ p _ c.requires.1.before) c.loop-l.invariant.1 c.loop-l-test.false

@@ -1,12 +1,10 @@
 -- `truncate::end_links` meets its contract: after l turns the links of the levels below l are those of the shortened list.
 use Prim.Native.Nat.{ℕ, ◌-◌, ◌≤◌}
 use mathlib.Core.List.{List}
-use native.Mathlib.Omega.{arith}
-use borrow.Author.Rules.{rules}
 use Rattle.model.specs.Arena.{to_column}
 use Rattle.arena.specs.Owners.{Before, NodeThere}
 use Rattle.arena.specs.declared.Rank.{Rank}
-use Rattle.truncate.proofs.Ending.{ChainEnded, none-ended, same_size, precursor_link, level_ended, unlinked}
+use Rattle.truncate.proofs.Ending.{ChainEnded}
 use Rattle.truncate.proofs.end_links.Given as goal
 
 abbrev pub invariant-loop-l : goal.invariant-loop-l

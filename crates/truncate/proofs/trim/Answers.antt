@@ -1,28 +1,22 @@
 -- `truncate::trim` meets its contract: the list ends at the path, then the nodes behind are freed one by one, and the header says so.
-use Prim.Native.Nat.{ℕ, ◌-◌}
-use mathlib.Core.Path.{◌≡◌, ◌∙◌}
-use mathlib.Core.List.{List}
-use lib.ListN.{length}
+use Prim.Native.Nat.{◌-◌}
 use native.Mathlib.Omega.{arith}
-use borrow.Author.Rules.{rules}
-use Rattle.model.specs.Passes.{nodes}
-use Rattle.arena.specs.Owners.{NodeThere}
 use Rattle.truncate.proofs.Ending.{both_there, ended}
-use Rattle.truncate.proofs.Freeing.{Freeing, head_cell, count_is, end-cell, long, more_than, total_fits}
-use Rattle.truncate.proofs.Freeing.{free_start, size_is, node_at, next-cell, free_turn, freed-all}
+use Rattle.truncate.proofs.Freeing.{head_cell, count_is, end-cell, more_than, total_fits}
+use Rattle.truncate.proofs.Freeing.{free_start, node_at, next-cell, free_turn, freed-all}
 use Rattle.truncate.proofs.trim.Goals as goal
 
 pub cell-count-requires : goal.cell-count-requires
 cell-count-requires c =
-        head_cell c.requires.0
+    head_cell c.requires.0
 
 pub cell-requires : goal.cell-requires
 cell-requires c =
-        end-cell c.requires.0 c.requires.1.end
+    end-cell c.requires.0 c.requires.1.end
 
 pub end_chain-requires : goal.end_chain-requires
 end_chain-requires c =
-        both_there c.requires.0 c.requires.1.end c.end_links.ensures
+    both_there c.requires.0 c.requires.1.end c.end_links.ensures
 
 pub cell-requires-in-loop-i : goal.cell-requires-in-loop-i
 cell-requires-in-loop-i c =

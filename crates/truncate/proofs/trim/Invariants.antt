@@ -1,15 +1,11 @@
 -- `truncate::trim` meets its contract: the list ends at the path, then the nodes behind are freed one by one, and the header says so.
 use Prim.Native.Nat.{ℕ, ◌-◌}
-use mathlib.Core.Path.{◌≡◌, ◌∙◌}
+use mathlib.Core.Path.{◌≡◌}
 use mathlib.Core.List.{List}
 use lib.ListN.{length}
-use native.Mathlib.Omega.{arith}
-use borrow.Author.Rules.{rules}
 use Rattle.model.specs.Passes.{nodes}
 use Rattle.arena.specs.Owners.{NodeThere}
-use Rattle.truncate.proofs.Ending.{both_there, ended}
-use Rattle.truncate.proofs.Freeing.{Freeing, head_cell, count_is, end-cell, long, more_than, total_fits}
-use Rattle.truncate.proofs.Freeing.{free_start, size_is, node_at, next-cell, free_turn, freed-all}
+use Rattle.truncate.proofs.Freeing.{Freeing}
 use Rattle.truncate.proofs.trim.Given as goal
 
 abbrev pub invariant-loop-i : goal.invariant-loop-i

@@ -1,6 +1,5 @@
 -- `arena_check::free::free_ok` meets its contract. The loop's invariant: the free chain is right exactly when what is left of it is.
-use borrow.Author.Rules.{rules}
-use Rattle.arena_check.proofs.FreeWalk.{FreeAt, free_walk_start, free_next, not_free, free_goes-on, free_yes, free_slot_in}
+use Rattle.arena_check.proofs.FreeWalk.{FreeAt}
 use Rattle.arena_check.proofs.free.free_ok.Given as goal
 
 abbrev pub invariant-loop-left : goal.invariant-loop-left

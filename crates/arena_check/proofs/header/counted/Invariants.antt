@@ -1,10 +1,6 @@
 -- `arena_check::header::counted` meets its contract. The loop's invariant: the sum of the free count and of the lengths of the heads passed.
 use Prim.Native.Nat.{◌-◌}
-use borrow.Author.Rules.{rules}
-use mathlib.Core.Path.{◌∙◌}
-use native.Mathlib.Omega.{arith}
-use Rattle.arena_check.proofs.HeadTests.{Counted, count_none, count_more, count_all}
-use Rattle.model.specs.Arena.{free_word}
+use Rattle.arena_check.proofs.HeadTests.{Counted}
 use Rattle.arena_check.proofs.header.counted.Given as goal
 
 abbrev pub invariant-loop-a : goal.invariant-loop-a

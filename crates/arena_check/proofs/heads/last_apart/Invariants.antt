@@ -1,10 +1,7 @@
 -- `arena_check::heads::last_apart` meets its contract. The loop's invariant: the heads passed end in another slot.
 use Prim.Native.Nat.{◌-◌}
-use borrow.Author.Rules.{rules}
-use native.Mathlib.Omega.{arith}
-use Rattle.arena_check.proofs.HeadTests.{empty-list, ends-apart, ends-alike}
 use Rattle.arena_check.specs.Headed.{LastsDiffer}
-use Rattle.link_check.proofs.Loops.{Upto, upto-none, each-yes}
+use Rattle.link_check.proofs.Loops.{Upto}
 use Rattle.arena_check.proofs.heads.last_apart.Given as goal
 
 abbrev pub invariant-loop-b : goal.invariant-loop-b

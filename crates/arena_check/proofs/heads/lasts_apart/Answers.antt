@@ -1,16 +1,12 @@
 -- `arena_check::heads::lasts_apart` meets its contract. The loop's invariant: the lists passed end apart.
 use Prim.Native.Nat.{◌-◌}
-use borrow.Author.Rules.{rules}
-use native.Mathlib.Omega.{arith}
-use Rattle.arena_check.specs.Headed.{LastsDiffer}
-use Rattle.link_check.proofs.Loops.{Upto, upto-none, upto_next, each_no, each-yes}
-use Rattle.link_check.specs.EachFrom.{EachFrom}
+use Rattle.link_check.proofs.Loops.{each_no, each-yes}
 use Rattle.arena_check.proofs.heads.lasts_apart.Goals as goal
 
 pub returns-else-last_apart : goal.returns-else-last_apart
 returns-else-last_apart c =
-        each_no c.loop-a.invariant c.loop-a-test.true c.last_apart.ensures c.if-last_apart.false
+    each_no c.loop-a.invariant c.loop-a-test.true c.last_apart.ensures c.if-last_apart.false
 
 pub returns : goal.returns
 returns c =
-        each-yes c.loop-a.invariant c.loop-a-test.false
+    each-yes c.loop-a.invariant c.loop-a-test.false

@@ -1,9 +1,7 @@
 -- `arena_check::heads::lasts_apart` meets its contract. The loop's invariant: the lists passed end apart.
 use Prim.Native.Nat.{◌-◌}
-use borrow.Author.Rules.{rules}
-use native.Mathlib.Omega.{arith}
 use Rattle.arena_check.specs.Headed.{LastsDiffer}
-use Rattle.link_check.proofs.Loops.{Upto, upto-none, upto_next, each_no, each-yes}
+use Rattle.link_check.proofs.Loops.{Upto}
 use Rattle.link_check.specs.EachFrom.{EachFrom}
 use Rattle.arena_check.proofs.heads.lasts_apart.Given as goal
 

@@ -1,10 +1,7 @@
 -- `arena_check::heads::lists_ok` meets its contract. The loop's invariant: the lists passed are right.
 use Prim.Native.Nat.{◌-◌}
-use borrow.Author.Rules.{rules}
-use native.Mathlib.Omega.{arith}
 use Rattle.arena_check.proofs.HeadTests.{length_fits}
-use Rattle.link_check.proofs.Loops.{Upto, upto-none, upto_next, each_no, each-yes}
-use Rattle.list_check.specs.Walked.{ListOk}
+use Rattle.link_check.proofs.Loops.{each_no, each-yes}
 use Rattle.arena_check.proofs.heads.lists_ok.Goals as goal
 
 pub list_ok-requires-clause-a_bound : goal.list_ok-requires-clause-a_bound
@@ -12,8 +9,8 @@ list_ok-requires-clause-a_bound c = length_fits _ _ _ c.requires.lists_value c.l
 
 pub returns-else-list_ok : goal.returns-else-list_ok
 returns-else-list_ok c =
-        each_no c.loop-a.invariant c.loop-a-test.true c.list_ok.ensures c.if-list_ok.false
+    each_no c.loop-a.invariant c.loop-a-test.true c.list_ok.ensures c.if-list_ok.false
 
 pub returns : goal.returns
 returns c =
-        each-yes c.loop-a.invariant c.loop-a-test.false
+    each-yes c.loop-a.invariant c.loop-a-test.false

@@ -1,9 +1,6 @@
 -- `arena_check::heads::lists_ok` meets its contract. The loop's invariant: the lists passed are right.
 use Prim.Native.Nat.{◌-◌}
-use borrow.Author.Rules.{rules}
-use native.Mathlib.Omega.{arith}
-use Rattle.arena_check.proofs.HeadTests.{length_fits}
-use Rattle.link_check.proofs.Loops.{Upto, upto-none, upto_next, each_no, each-yes}
+use Rattle.link_check.proofs.Loops.{Upto}
 use Rattle.list_check.specs.Walked.{ListOk}
 use Rattle.arena_check.proofs.heads.lists_ok.Given as goal
 

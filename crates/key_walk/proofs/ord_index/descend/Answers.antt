@@ -1,27 +1,23 @@
 -- `key_walk::ord_index::descend` meets its contract.
 -- The invariant: in whichever list the walk began, the stages still to come lead where it leads from there, with its tally. The measure: stages and
 -- comparisons left.
-use Prim.Native.Nat.{ℕ, ◌+◌, ◌<◌}
-use mathlib.Core.Path.{◌≡◌, refl, ◌∙◌}
+use mathlib.Core.Path.{refl, ◌∙◌}
 use native.Mathlib.Omega.{arith}
-use borrow.Author.Rules.{rules}
-use borrow.Author.Tests.{not-true, not-false}
 use Rattle.arena.proofs.Deciding.{yes, no}
 use Rattle.walk.proofs.Standing.{length_most, link_here, key_inside, key_read}
 use Rattle.walk.proofs.Ahead.{key_cell}
-use Rattle.key_walk.specs.Midway.{Stands, Carries}
-use Rattle.key_walk.proofs.Answering.{midway_start, down-absent, over, down-other, go_there}
+use Rattle.key_walk.proofs.Answering.{down-absent, over, down-other, go_there}
 use Rattle.key_walk.proofs.ord_index.descend.Goals as goal
 
 pub target_in-to-requires : goal.target_in-to-requires
 target_in-to-requires c =
-        let v = c.loop-stage.invariant _ c.requires in
+    let v = c.loop-stage.invariant _ c.requires in
     let z = c.loop-stage-test.true in
     (z, omega (arith, (link_here v.midway.stands v.base z).inside))
 
 pub loop-stage-preserved-then-to : goal.loop-stage-preserved-then-to
 loop-stage-preserved-then-to c =
-        λ a g.
+    λ a g.
     let v = c.loop-stage.invariant a g in
     let z = c.loop-stage-test.true in
     let k = link_here v.midway.stands v.base z in
@@ -29,21 +25,21 @@ loop-stage-preserved-then-to c =
 
 pub returns-then-v-eq0 : goal.returns-then-v-eq0
 returns-then-v-eq0 c =
-        let v = c.loop-stage.invariant _ c.requires in
+    let v = c.loop-stage.invariant _ c.requires in
     let z = c.loop-stage-test.true in
     let k = link_here v.midway.stands v.base z in
     over v.midway _ (c.target_in-to.ensures ∙ k.target) c.if-to.false c.if-v-eq0.true
 
 pub key_in-met-requires : goal.key_in-met-requires
 key_in-met-requires c =
-        let v = c.loop-stage.invariant _ c.requires in
+    let v = c.loop-stage.invariant _ c.requires in
     let z = c.loop-stage-test.true in
     let k = link_here v.midway.stands v.base z in
     key_inside _ _ _ c.base_of-there.ensures (key_cell v.midway.stands (c.target_in-to.ensures ∙ k.target) c.if-to.false)
 
 pub loop-stage-preserved-then-not-below : goal.loop-stage-preserved-then-not-below
 loop-stage-preserved-then-not-below c =
-        λ a g.
+    λ a g.
     let v = c.loop-stage.invariant a g in
     let z = c.loop-stage-test.true in
     let k = link_here v.midway.stands v.base z in
@@ -54,13 +50,13 @@ loop-stage-preserved-then-not-below c =
 
 pub distance_in-far-requires : goal.distance_in-far-requires
 distance_in-far-requires c =
-        let v = c.loop-stage.invariant _ c.requires in
+    let v = c.loop-stage.invariant _ c.requires in
     let z = c.loop-stage-test.true in
     (z, (link_here v.midway.stands v.base z).inside)
 
 pub plus-rank-requires : goal.plus-rank-requires
 plus-rank-requires c =
-            let v = c.loop-stage.invariant _ c.requires in
+    let v = c.loop-stage.invariant _ c.requires in
     let z = c.loop-stage-test.true in
     let k = link_here v.midway.stands v.base z in
     let to = c.target_in-to.ensures ∙ k.target in
@@ -70,7 +66,7 @@ plus-rank-requires c =
 
 pub loop-stage-preserved : goal.loop-stage-preserved
 loop-stage-preserved c =
-            λ a g.
+    λ a g.
     let v = c.loop-stage.invariant a g in
     let z = c.loop-stage-test.true in
     let k = link_here v.midway.stands v.base z in

@@ -1,7 +1,6 @@
 -- `link_check::pending::fill` meets its contract. The loop's invariant: the levels passed have the value.
 use Prim.Native.Nat.{◌-◌}
-use borrow.Author.Rules.{rules}
-use Rattle.link_check.proofs.OwnersFilled.{Filling, fill_none, fill_more, fill_all}
+use Rattle.link_check.proofs.OwnersFilled.{fill_none, fill_more}
 use Rattle.link_check.proofs.pending.fill.Goals as goal
 
 pub loop-l-init : goal.loop-l-init

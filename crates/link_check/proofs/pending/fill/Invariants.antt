@@ -1,7 +1,6 @@
 -- `link_check::pending::fill` meets its contract. The loop's invariant: the levels passed have the value.
 use Prim.Native.Nat.{◌-◌}
-use borrow.Author.Rules.{rules}
-use Rattle.link_check.proofs.OwnersFilled.{Filling, fill_none, fill_more, fill_all}
+use Rattle.link_check.proofs.OwnersFilled.{Filling}
 use Rattle.link_check.proofs.pending.fill.Given as goal
 
 abbrev pub invariant-loop-l : goal.invariant-loop-l

@@ -1,16 +1,12 @@
 -- `link_check::pending::pending_absent` meets its contract. The loop's invariant: the pending links of the levels passed are absent.
 use Prim.Native.Nat.{◌-◌}
-use borrow.Author.Rules.{rules}
-use lib.ListN.{get_or}
-use native.Mathlib.Omega.{arith}
-use Rattle.link_check.proofs.Loops.{Upto, upto-none, upto_next, each_no, each-yes}
-use Rattle.model.specs.Passes.{Absent}
+use Rattle.link_check.proofs.Loops.{each_no, each-yes}
 use Rattle.link_check.proofs.pending.pending_absent.Goals as goal
 
 pub returns-else-link_absent : goal.returns-else-link_absent
 returns-else-link_absent c =
-        each_no c.loop-l.invariant c.loop-l-test.true c.link_absent.ensures c.if-link_absent.false
+    each_no c.loop-l.invariant c.loop-l-test.true c.link_absent.ensures c.if-link_absent.false
 
 pub returns : goal.returns
 returns c =
-        each-yes c.loop-l.invariant c.loop-l-test.false
+    each-yes c.loop-l.invariant c.loop-l-test.false

@@ -1,9 +1,7 @@
 -- `link_check::pending::pending_reach` meets its contract. The loop's invariant: the pending links of the levels passed go to this node.
 use Prim.Native.Nat.{◌-◌}
-use borrow.Author.Rules.{rules}
 use lib.ListN.{get_or}
-use native.Mathlib.Omega.{arith}
-use Rattle.link_check.proofs.Loops.{Upto, upto-none, upto_next, each_no, each-yes}
+use Rattle.link_check.proofs.Loops.{Upto}
 use Rattle.link_check.specs.LevelLinks.{Reaches}
 use Rattle.link_check.proofs.pending.pending_reach.Given as goal
 

@@ -1,8 +1,6 @@
 -- `link_check::records::absent_from` meets its contract. The loop's invariant: the links of the levels passed are absent.
 use Prim.Native.Nat.{◌-◌}
-use borrow.Author.Rules.{rules}
-use native.Mathlib.Omega.{arith}
-use Rattle.link_check.proofs.Loops.{Upto, upto-none, upto_next, each_no, each-yes}
+use Rattle.link_check.proofs.Loops.{Upto}
 use Rattle.model.specs.Passes.{Absent}
 use Rattle.link_check.proofs.records.absent_from.Given as goal
 

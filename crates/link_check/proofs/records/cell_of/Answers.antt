@@ -1,5 +1,4 @@
 -- `link_check::records::cell_of` meets its contract: the record lies in the words.
-use borrow.Author.Rules.{rules}
 use Rattle.link_check.proofs.InShape.{cell_in_shape}
 use Rattle.link_check.proofs.records.cell_of.Goals as goal
 

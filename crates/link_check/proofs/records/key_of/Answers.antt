@@ -1,5 +1,4 @@
 -- `link_check::records::key_of` meets its contract: the record lies in the words.
-use borrow.Author.Rules.{rules}
 use native.Mathlib.Omega.{arith}
 use Rattle.link_check.proofs.InShape.{cell_in_shape}
 use Rattle.link_check.proofs.records.key_of.Goals as goal

@@ -1,5 +1,4 @@
 -- `link_check::records::link_of` meets its contract: the link lies in the words.
-use borrow.Author.Rules.{rules}
 use Rattle.link_check.proofs.InShape.{link_in_shape}
 use Rattle.link_check.proofs.records.link_of.Goals as goal
 

@@ -1,8 +1,5 @@
 -- `list_check::walks::walk_ok` meets its contract. The loop's invariant: the list is right exactly when what is left of it is.
-use borrow.Author.Rules.{rules}
-use mathlib.Core.Path.{◌∙◌}
-use native.Mathlib.Omega.{arith}
-use Rattle.list_check.proofs.WalkSteps.{WalkAt, right-slot_in, height_fits, walk_start, walk_next, wrong_node, list-goes-on, other_last, walk_decided}
+use Rattle.list_check.proofs.WalkSteps.{WalkAt}
 use Rattle.list_check.proofs.walks.walk_ok.Given as goal
 
 abbrev pub invariant-loop-left : goal.invariant-loop-left

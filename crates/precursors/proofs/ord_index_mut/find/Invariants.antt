@@ -2,19 +2,12 @@
 -- The invariant: the walk stands no further than the number of smaller keys, and the precursors of the levels above are noted. The measure: stages
 -- and ranks left.
 use Prim.Native.Nat.{◌+◌, ◌-◌}
-use mathlib.Core.Path.{◌≡◌, refl, ◌∙◌}
-use native.Mathlib.Omega.{arith}
-use borrow.Author.Rules.{rules}
-use borrow.Author.Tests.{not-true, not-false}
+use mathlib.Core.Path.{◌≡◌}
 use Rattle.model.specs.Cells.{base_of}
 use Rattle.model.specs.Nodes.{smaller}
 use Rattle.model.specs.Passes.{nodes}
-use Rattle.arena.proofs.Deciding.{yes, no}
-use Rattle.walk.proofs.Standing.{length_most, lowered, link_here}
-use Rattle.walk.proofs.Ahead.{key_cell}
-use Rattle.walk.proofs.Noting.{Noted, noted-none, noted_more, noted-all}
+use Rattle.walk.proofs.Noting.{Noted}
 use Rattle.precursors.specs.Trails.{Begun}
-use Rattle.precursors.proofs.Tracing.{begun-at_head, stops_here, bound_here, far_on, goes_there, never_bound}
 use Rattle.precursors.proofs.ord_index_mut.find.Given as goal
 
 abbrev pub invariant-loop-stage : goal.invariant-loop-stage

@@ -1,12 +1,9 @@
 -- `rank_walk::index::at` meets its contract: the walk from the head to the rank of the index.
-use Prim.Native.Nat.{suc}
-use mathlib.Core.Path.{◌≡◌, refl, ap, ◌∙◌}
+use mathlib.Core.Path.{refl}
 use native.Mathlib.Omega.{arith}
-use Rattle.model.specs.Nodes.{slot_at}
-use Rattle.model.specs.Passes.{nodes}
-use Rattle.walk.proofs.Standing.{at_head, at-rank, length_most}
+use Rattle.walk.proofs.Standing.{at-rank, length_most}
 use Rattle.rank_walk.proofs.index.at.Goals as goal
 
 pub from_index-requires : goal.from_index-requires
 from_index-requires c =
-        omega (arith, length_most (at-rank 0 c.requires.0 (omega arith) refl), c.requires.1)
+    omega (arith, length_most (at-rank 0 c.requires.0 (omega arith) refl), c.requires.1)

@@ -1,15 +1,9 @@
 -- `rank_walk::index::reach` meets its contract.
 -- The invariant: the walk stands no further than the target. The measure: stages and ranks left.
 use Prim.Native.Nat.{◌+◌, ◌-◌}
-use mathlib.Core.Path.{◌≡◌, ◌∙◌}
-use native.Mathlib.Omega.{arith}
-use borrow.Author.Rules.{rules}
-use borrow.Author.Tests.{not-false}
+use mathlib.Core.Path.{◌≡◌}
 use Rattle.model.specs.Cells.{base_of}
-use Rattle.arena.proofs.Deciding.{yes}
 use Rattle.walk.specs.Standing.{Standing}
-use Rattle.walk.proofs.Standing.{levels_most, length_most, lowered, link_here}
-use Rattle.rank_walk.proofs.Seeking.{follows}
 use Rattle.rank_walk.proofs.index.reach.Given as goal
 
 abbrev pub invariant-loop-stage : goal.invariant-loop-stage

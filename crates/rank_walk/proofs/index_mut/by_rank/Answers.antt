@@ -1,7 +1,6 @@
 -- `rank_walk::index_mut::by_rank` meets its contract.
 -- What `seek` notes is what document 01's walk notes, whether it ends at the head, at a node or with none.
 use native.Mathlib.Omega.{arith}
-use borrow.Author.Rules.{rules}
 use Rattle.model.specs.Arena.{next_column}
 use Rattle.walk.proofs.Standing.{at-rank, cell_here}
 use Rattle.rank_walk.proofs.Ranked.{ranked_head, ranked-past, ranked_there}
@@ -9,18 +8,18 @@ use Rattle.rank_walk.proofs.index_mut.by_rank.Goals as goal
 
 pub returns-then-target : goal.returns-then-target
 returns-then-target c =
-        ranked_head c.requires _ c.if-target.true
+    ranked_head c.requires _ c.if-target.true
 
 pub returns-then-n-target : goal.returns-then-n-target
 returns-then-n-target c =
-        ranked-past c.requires _ _ _ c.seek-p.ensures c.length-n.ensures c.if-n-target.true
+    ranked-past c.requires _ _ _ c.seek-p.ensures c.length-n.ensures c.if-n-target.true
 
 pub cell-to-requires : goal.cell-to-requires
 cell-to-requires c =
-        let i = c.to_index in
+    let i = c.to_index in
     let g = at-rank i.result.0 c.requires (omega (arith, i.ensures, c.if-n-target.false, c.length-n.ensures)) c.seek-p-2.ensures.end in
     cell_here g next_column (omega arith)
 
 pub returns : goal.returns
 returns c =
-        ranked_there c.requires _ _ _ c.seek-p-2.ensures c.to_index.ensures (omega (arith, c.if-n-target.false, c.length-n.ensures)) _ c.cell-to.ensures
+    ranked_there c.requires _ _ _ c.seek-p-2.ensures c.to_index.ensures (omega (arith, c.if-n-target.false, c.length-n.ensures)) _ c.cell-to.ensures

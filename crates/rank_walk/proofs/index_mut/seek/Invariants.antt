@@ -1,16 +1,10 @@
 -- `rank_walk::index_mut::seek` meets its contract.
 -- The invariant: the walk stands no further than the limit, and the precursors of the levels above are noted. The measure: stages and ranks left.
 use Prim.Native.Nat.{◌+◌, ◌-◌}
-use mathlib.Core.Path.{◌≡◌, refl, ◌∙◌}
-use native.Mathlib.Omega.{arith}
-use borrow.Author.Rules.{rules}
-use borrow.Author.Tests.{not-true, not-false}
+use mathlib.Core.Path.{◌≡◌}
 use Rattle.model.specs.Cells.{base_of}
-use Rattle.arena.proofs.Deciding.{yes, no}
 use Rattle.walk.specs.Standing.{Standing}
-use Rattle.walk.proofs.Standing.{at_head, length_most, lowered, link_here}
-use Rattle.walk.proofs.Noting.{Noted, noted-none, noted_more, noted-all}
-use Rattle.rank_walk.proofs.Seeking.{ends_here, follows}
+use Rattle.walk.proofs.Noting.{Noted}
 use Rattle.rank_walk.proofs.index_mut.seek.Given as goal
 
 abbrev pub invariant-loop-stage : goal.invariant-loop-stage

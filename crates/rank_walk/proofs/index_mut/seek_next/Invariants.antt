@@ -1,12 +1,7 @@
 -- `rank_walk::index_mut::seek_next` meets its contract.
 -- The invariant: in whichever list the walk began, it is still there, no further than the limit. The measure: ranks left.
 use Prim.Native.Nat.{ℕ, ◌-◌}
-use native.Mathlib.Omega.{arith}
-use borrow.Author.Rules.{rules}
-use Rattle.model.specs.Arena.{next_column}
 use Rattle.walk.specs.Standing.{Standing}
-use Rattle.walk.proofs.Standing.{cell_here}
-use Rattle.rank_walk.proofs.Seeking.{steps, arrived}
 use Rattle.rank_walk.proofs.index_mut.seek_next.Given as goal
 
 abbrev pub invariant-loop-v : goal.invariant-loop-v

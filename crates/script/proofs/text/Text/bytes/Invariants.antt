@@ -3,9 +3,7 @@ use Prim.Native.Nat.{◌≤◌, ◌-◌}
 use mathlib.Core.List.{◌++◌}
 use mathlib.Core.Path.{◌≡◌}
 use lib.ListN.{length, take}
-use borrow.Author.Rules.{rules}
 use Rattle.script.specs.Texts.{written}
-use Rattle.script.proofs.TextLaws.{nothing_more, next-byte, all-bytes}
 use Rattle.script.proofs.text.Text.bytes.Given as goal
 
 abbrev pub invariant-loop-i : goal.invariant-loop-i

@@ -4,7 +4,6 @@ use Prim.Native.Nat.{ℕ}
 use mathlib.Core.Path.{ap, ◌∙◌}
 use mathlib.Core.Bool.{false}
 use native.Mathlib.Omega.{arith}
-use borrow.Author.Rules.{rules}
 use Rattle.visitor.specs.Visited.{rank_at}
 use Rattle.visitor.proofs.Ends.{visit_there, visit_past, visit_behind}
 use Rattle.visitor.proofs.index.IndexVisitor.traversed.Goals as goal

@@ -1,8 +1,7 @@
 -- `visitor::ord_index::OrdIndexVisitor::traversed` meets its contract.
 -- A visitor that has found its key is given back; otherwise it is where the walk on from its slot ends.
-use mathlib.Core.Path.{refl, sym, ◌∙◌}
-use borrow.Author.Rules.{rules}
-use Rattle.visitor.proofs.Ends.{found-stays, visit_ends, visit_over}
+use mathlib.Core.Path.{◌∙◌}
+use Rattle.visitor.proofs.Ends.{visit_ends, visit_over}
 use Rattle.visitor.proofs.ord_index.OrdIndexVisitor.traversed.Goals as goal
 
 pub returns-in-Found : goal.returns-in-Found
