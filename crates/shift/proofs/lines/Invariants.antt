@@ -2,11 +2,7 @@
 use Prim.Native.Nat.{◌-◌, ◌≤◌}
 use mathlib.Core.Path.{◌≡◌}
 use lib.ListN.{length}
-use native.Mathlib.Omega.{arith}
-use borrow.Author.Rules.{rules}
-use Rattle.answers.proofs.Rows.{listed}
-use Rattle.model.proofs.Columns.{lists_are}
-use Rattle.shift.proofs.AllLines.{Lined, none-lined, one-lined, all-lined}
+use Rattle.shift.proofs.AllLines.{Lined}
 use Rattle.shift.proofs.lines.Given as goal
 
 abbrev pub invariant-loop-list : goal.invariant-loop-list
