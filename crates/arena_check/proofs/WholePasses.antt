@@ -127,7 +127,7 @@ module _ (w : List ℕ) where
       free_form = λ gs g gs' e. let h = free_node_form w d (free_count w) (first_free_slot w) gs g gs' f.free e in (h.zero, h.mark, h.zero_last);
       free_links = λ gs g gs' e l k. (free_node_form w d (free_count w) (first_free_slot w) gs g gs' f.free e).links l (omega arith) k;
       head_links = λ a l i k. subst (λ (xs : List Node). LinkIs d.levels w a i xs) (sym (nodes-from a l)) ((facts a l).links i k);
-      node_links_lem = λ a aa y ys l e i k h. let m = mid a aa y ys l e in m.0.links i (omega (arith, m.1));
+      links_of_nodes = λ a aa y ys l e i k h. let m = mid a aa y ys l e in m.0.links i (omega (arith, m.1));
       node_absent = λ a aa y ys l e i k h. let m = mid a aa y ys l e in m.0.absent i (omega (arith, m.1)) k;
     }
       where
@@ -180,7 +180,7 @@ module _ (w : List ℕ) where
           slot = v;
           low = omega (arith, low_mid d.levels aa y ys (rw e at (c.node_height a l)));
           zero = c.node_zero a aa y ys l e;
-          links = λ i k. c.node_links_lem a aa y ys l e i (omega (arith, low_mid d.levels aa y ys (rw e at (c.node_height a l)))) (omega arith);
+          links = λ i k. c.links_of_nodes a aa y ys l e i (omega (arith, low_mid d.levels aa y ys (rw e at (c.node_height a l)))) (omega arith);
           absent = λ i o k. c.node_absent a aa y ys l e i k (omega arith);
         }) (count_in w d a) (next_in w d a) [] (nodes-from a l) (c.chains a l);
         sorted = subst Sorted (nodes-from a l) (c.sorted a l);

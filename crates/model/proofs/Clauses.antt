@@ -59,7 +59,7 @@ module _ (w : List ℕ) (c : Clauses w) where
       let v = stands L M C w (cell_at M w a 0) (cell_at M w a 2) aa y ys (c.chains a l) (sym (nodes_are w a l) ∙ e) in
       every_column (λ k. cell_at M w y.slot k ≡ get_or (node_words M y ys) k 0) M v.key v.height v.next (c.node_zero a aa y ys l e)
       (λ i j k q. elim (test (suc i) y.height) [
-        | hit t p ↦ read-field y.slot i j q (c.node_links_lem a aa y ys l e i k p).link ∙ sym ((link_column M i j k q).node y ys ∙ (rw t refl))
+        | hit t p ↦ read-field y.slot i j q (c.links_of_nodes a aa y ys l e i k p).link ∙ sym ((link_column M i j k q).node y ys ∙ (rw t refl))
         | miss t p ↦ read-field y.slot i j q (c.node_absent a aa y ys l e i k (omega arith)).link ∙ sym ((link_column M i j k q).node y ys ∙ (rw t refl))
       ])
 
@@ -189,7 +189,7 @@ module _ (w : List ℕ) (p : Passes w) where
           link = link_is S.levels w a l (link_of (suc l) (nodes w a)) refl
               (λ j q. head_cell a i (to_column l + j) (omega arith) ∙ (link_column S.levels l j k q).head (nodes w a) ∙ (rw t refl));
         };
-    node_links_lem = λ a aa y ys i e l k h.
+    links_of_nodes = λ a aa y ys i e l k h.
         let t : leb (suc l) y.height ≡ true = le-leb (suc l) y.height h in
         record {
           link = link_is S.levels w y.slot l (link_of (suc l) ys) refl

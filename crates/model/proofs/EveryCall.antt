@@ -95,7 +95,7 @@ kept {S} v z c = (sound-after S v c, alike-sizes (alike-after S c) z)
 pub passes-after : {w : List ℕ} → Passes w → (c : Call) → Passes (encode (result_of (decode w) c))
 passes-after {w} p c = let k = kept p.sound p.sizes c in passes-encode (result_of (decode w) c) k.0 k.1
 
--- ---- set_up_lem ----
+-- ---- set-up ----
 each-empty : (P : List Node → Type 0) → P [] → (n : ℕ) → Each P (replicate n [])
 each-empty P p zero = tt
 each-empty P p (suc n) = (p, each-empty P p n)

@@ -47,4 +47,5 @@ pub mod CallAnswers
 pub mod Unique
 pub mod Slices
 pub mod Bounded
+pub mod BenchReadings
 pub mod Order

@@ -19,7 +19,7 @@ use Rattle.model.specs.Claims.{FoundFirst, Appended, LevelledAt, Untouched}
 use Rattle.model.specs.Stays.{Stands, Gone}
 use Rattle.model.specs.Slices.{broken, whole}
 use Rattle.model.specs.Order.{On, Accepted, Sequences, Order}
-use Rattle.model.specs.Bench.{table}
+use Rattle.model.proofs.BenchReadings.{table}
 use Rattle.model.proofs.CallAnswers.{declined-number, answer-refused, search-answers, read-answers, remove-answers, removal-answers, middle-answers}
 use Rattle.model.proofs.Bounded.{is-walks, within-rank, within-gap, within-levelled}
 use Rattle.model.proofs.ByKey.{key_precursor, key_found, key_missing, key_place-all}
@@ -225,7 +225,7 @@ order = record {
   staying = record { refusals = refused-stays; set_ups = set_up_stays; checks = check-stays; searches = search_stays; reads = read_stays; middles = middle_stays; others = other-stays };
   holding = record {
     call = call_unique;
-    set_up_lem = set_up_unique;
+    sets_up = set_up_unique;
     check = check_unique;
     words = same_words;
     sequence = history_unique;

@@ -8,7 +8,7 @@ use native.Mathlib.Omega.{arith}
 use Rattle.model.specs.Arena.{State, header_words, width, encode, set_up}
 use Rattle.model.specs.Calls.{Call, Answer, Room, Promise, SetUpPromise, CheckPromise}
 use Rattle.model.specs.Passes.{decode, Passes}
-use Rattle.model.specs.Slices.{Act, setting_up, checking, calling, Reply, number, verdict, answered, Keeps, set_up_lem, check, call, History, nothing, first}
+use Rattle.model.specs.Slices.{Act, setting_up, checking, calling, Reply, number, verdict, answered, Keeps, sets_up, check, call, History, nothing, first}
 use Rattle.model.specs.Slices.{Held, broken, whole, words_in, Holds, right, reply, held, after_all, after, replies, held_after}
 use Rattle.model.proofs.EveryCall.{kept, set_up_sound, set_up_sizes}
 use Rattle.model.proofs.Models.{passes_model, model_of}
@@ -108,7 +108,7 @@ call-done {c} (whole S) k p =
     record { told = ap answered (rw e at a.0); left = (rw e at a.1, v.0, v.1) }
 
 one-done : {a : Act} {w u : List ℕ} {r : Reply} (h : Held) → Holds w h → Keeps a w u r → Done h a u r
-one-done h k (set_up_lem p) = set_up_done h k p
+one-done h k (sets_up p) = set_up_done h k p
 one-done h k (check p) = check_done h k p
 one-done h k (call p) = call-done h k p
 
@@ -133,7 +133,7 @@ history_leaves {w} {u} {acts} p r =
 
 -- from any words, calls have one history
 one_unique : {a : Act} {w u v : List ℕ} {r s : Reply} → Keeps a w u r → Keeps a w v s → (r ≡ s) × (u ≡ v)
-one_unique (set_up_lem p) (set_up_lem q) = let e = set_up_unique p q in (ap number e.0, e.1)
+one_unique (sets_up p) (sets_up q) = let e = set_up_unique p q in (ap number e.0, e.1)
 one_unique (check p) (check q) = (ap verdict (check_unique p q), refl)
 one_unique (call p) (call q) = let e = call_unique p q in (ap answered e.0, e.1)
 

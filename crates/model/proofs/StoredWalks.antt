@@ -38,7 +38,7 @@ module _ (w : List ℕ) (p : Passes w) (a : ℕ) (la : a < length (decode w).lis
   -- ---- the stored columns of the owner at a rank ----
   own_link : (r l : ℕ) → r ≤ length xs → l < M → suc l ≤ height_at M xs r → link_at M w (slot_at a xs r) l ≡ link_of (suc l) (drop r xs)
   own_link zero l k lm t = ((passes-clauses w p).head_links a in_words l lm).link
-  own_link (suc i) l k lm t = ((passes-clauses w p).node_links_lem a (take i xs) (at xs i) (drop (suc i) xs) in_words (cut i k) l lm t).link
+  own_link (suc i) l k lm t = ((passes-clauses w p).links_of_nodes a (take i xs) (at xs i) (drop (suc i) xs) in_words (cut i k) l lm t).link
 
   own-next : (r : ℕ) → r ≤ length xs → cell_at M w (slot_at a xs r) next_column ≡ first_slot (drop r xs)
   own-next zero k = head_cell w p a in_words next_column (omega arith)

@@ -1,5 +1,5 @@
 -- "Bench readings": P1 to P12, as one table under a single statement, computed. Rests on Calls and Slices.
-use Rattle.std.specs.Prelude.{ℕ, ◌≡◌, refl, true, false, List, [], ◌∷◌, map}
+use Rattle.std.specs.Prelude.{ℕ, ◌≡◌, true, false, List, [], ◌∷◌, map}
 use Rattle.model.specs.Nodes.{Node, N, keys, slot_at}
 use Rattle.model.specs.Walks.{Stand, stand, precursors}
 use Rattle.model.specs.Arena.{State, encode, set_up, list_of}
@@ -62,27 +62,3 @@ pub record Table : Type 0 where
       ∷ 1 ∷ 1 ∷ 1 ∷ 1 ∷ 1 ∷ 1
       ∷ 7 ∷ 1 ∷ N ∷ 0 ∷ N ∷ 0
       ∷ 0 ∷ N ∷ N ∷ 0 ∷ N ∷ 0 ∷ []
-
-pub table : Table
-table =
-    record {
-      q_keys = refl;
-      q = refl;
-      p1 = refl;
-      p2 = refl;
-      p3 = refl;
-      p3_precursors = refl;
-      p4 = refl;
-      p5 = refl;
-      p6 = refl;
-      p7 = refl;
-      p8 = refl;
-      p8_nothing = refl;
-      p9_stays = refl;
-      p9_moves = refl;
-      p10 = refl;
-      p10_empty = refl;
-      p11 = refl;
-      p12 = refl;
-      p12_inserted = refl;
-    }

@@ -187,7 +187,7 @@ pub record Promise (c : Call) (before after : List ℕ) (r : Answer) : Type 0 wh
   pub broken : ¬ Passes before → (r ≡ refused 1) × (after ≡ before)
   pub whole : Passes before → (r ≡ answer_to (decode before) c) × (after ≡ encode (result_of (decode before) c))
 
--- ---- set_up_lem ----
+-- ---- set-up ----
 -- "2: L, M, C or the slice length is wrong": what it is for them to be right.
 pub record Room (L M C n : ℕ) : Type 0 where
   pub ranges : Ranges L M C

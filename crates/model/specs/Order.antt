@@ -107,7 +107,7 @@ pub record Staying : Type 0 where
 -- "For every input, refusals included, each public function's promise allows one answer and one content of the lent words", also "over any sequence".
 pub record Holding : Type 0 where
   pub call : {c : Call} {w u v : List ℕ} {r s : Answer} → Promise c w u r → Promise c w v s → (r ≡ s) × (u ≡ v)
-  pub set_up_lem : {L M C m n : ℕ} {w u v : List ℕ} → SetUpPromise L M C w u m → SetUpPromise L M C w v n → (m ≡ n) × (u ≡ v)
+  pub sets_up : {L M C m n : ℕ} {w u v : List ℕ} → SetUpPromise L M C w u m → SetUpPromise L M C w v n → (m ≡ n) × (u ≡ v)
   pub check : {w : List ℕ} {a b : Bool} → CheckPromise w a → CheckPromise w b → a ≡ b
   pub words : {w v : List ℕ} → Passes w → Passes v → decode w ≡ decode v → w ≡ v
   pub sequence : {w u v : List ℕ} {acts : List Act} {rs qs : List Reply} → History w acts rs u → History w acts qs v → (rs ≡ qs) × (u ≡ v)

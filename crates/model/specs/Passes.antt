@@ -122,7 +122,7 @@ pub record ClausesOf (L M C : ℕ) (w : List ℕ) : Type 0 where
   -- "the link at level l of a head, or of a node of height above l, goes to the next node of height above l with the difference of ranks as
   -- distance, or is absent if there is none"
   pub head_links : (a : ℕ) → a < L → (l : ℕ) → l < M → LinkIs M w a l (nodes w a)
-  pub node_links_lem : (a : ℕ) (aa : List Node) (y : Node) (ys : List Node) → a < L → nodes w a ≡ aa ++ y ∷ ys → (l : ℕ) → l < M → l < y.height → LinkIs M w y.slot l ys
+  pub links_of_nodes : (a : ℕ) (aa : List Node) (y : Node) (ys : List Node) → a < L → nodes w a ≡ aa ++ y ∷ ys → (l : ℕ) → l < M → l < y.height → LinkIs M w y.slot l ys
   -- "links at or above a node's height are absent"
   pub node_absent : (a : ℕ) (aa : List Node) (y : Node) (ys : List Node) → a < L → nodes w a ≡ aa ++ y ∷ ys → (l : ℕ) → l < M → y.height ≤ l → Absent M w y.slot l
 

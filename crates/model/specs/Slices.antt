@@ -1,10 +1,10 @@
--- Any sequence of all calls on one slice, from any words whatever: set_up_lem, the check and the calls on an arena. Rests on Calls.
+-- Any sequence of all calls on one slice, from any words whatever: set-up, the check and the calls on an arena. Rests on Calls.
 use Rattle.std.specs.Prelude.{ℕ, ◌+◌, ◌*◌, ◌≡◌, Bool, true, false, cond, List, [], ◌∷◌, leb, eqb, length}
 use Rattle.model.specs.Arena.{State, header_words, width, encode, set_up}
 use Rattle.model.specs.Passes.{Sound, Sizes, Passes}
 use Rattle.model.specs.Calls.{Call, Answer, refused, answer_to, result_of, Promise, SetUpPromise, CheckPromise}
 
--- What is called, and what it answers: set_up_lem a number, the check yes or no.
+-- What is called, and what it answers: set-up a number, the check yes or no.
 pub data Act : Type 0 where
   setting_up : ℕ → ℕ → ℕ → Act
   checking : Act
@@ -17,7 +17,7 @@ pub data Reply : Type 0 where
 
 -- Each keeps its promise of the words before and after.
 pub data Keeps : Act → List ℕ → List ℕ → Reply → Type 0 where
-  set_up_lem : {L M C n : ℕ} {w u : List ℕ} → SetUpPromise L M C w u n → Keeps (setting_up L M C) w u (number n)
+  sets_up : {L M C n : ℕ} {w u : List ℕ} → SetUpPromise L M C w u n → Keeps (setting_up L M C) w u (number n)
   check : {w : List ℕ} {b : Bool} → CheckPromise w b → Keeps checking w w (verdict b)
   call : {c : Call} {w u : List ℕ} {r : Answer} → Promise c w u r → Keeps (calling c) w u (answered r)
 
@@ -42,7 +42,7 @@ abbrev all : List Bool → Bool
 all [] = true
 all (b ∷ bs) = cond b (all bs) false
 
--- "2: set_up_lem: L, M, C or the slice length is wrong": whether they are right, for n words.
+-- "2: set-up: L, M, C or the slice length is wrong": whether they are right, for n words.
 abbrev pub right : ℕ → ℕ → ℕ → ℕ → Bool
 right L M C n = all (leb 1 L ∷ leb L 16 ∷ leb 1 M ∷ leb M 16 ∷ leb 1 C ∷ leb C 65535 ∷ eqb n (header_words + (L + C) * width M) ∷ [])
 

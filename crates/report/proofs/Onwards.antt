@@ -45,7 +45,7 @@ then_read x y = record {
   feeds = fed_both x.feeds y.feeds;
 }
 
--- set_up_lem of 8048 words is accepted
+-- set-up of 8048 words is accepted
 pub text-begun :
     {desk : Desk} {first second words : List ℕ} {number counted : ℕ}
     → length first ≡ 8048

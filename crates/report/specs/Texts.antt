@@ -12,7 +12,7 @@ pub record Onward (counted : ℕ) (d : Desk) (w : List ℕ) (e : Desk) (u : List
   pub few : length (joined pieces) ≤ counted
   pub feeds : Fed pieces d w e u
 
--- Since set_up_lem nothing was done but to feed a text of fewer than 2^64 bytes.
+-- Since set-up nothing was done but to feed a text of fewer than 2^64 bytes.
 pub record Begun (desk : Desk) (words : List ℕ) : Type 0 where
   pub first : List ℕ
   pub second : List ℕ

@@ -1,3 +1,3 @@
--- The laws of set_up_lem, by theme.
+-- The laws of set-up, by theme.
 pub mod NewModel
 pub mod Writing

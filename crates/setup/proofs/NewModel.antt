@@ -1,4 +1,4 @@
--- The model that set_up_lem makes: its records, all without links, and its header. Rests on specs/NewRecords and model's Arena.
+-- The model that set-up makes: its records, all without links, and its header. Rests on specs/NewRecords and model's Arena.
 use Prim.Native.Nat.{ℕ, zero, suc, ◌+◌, ◌-◌, ◌≤◌, ◌<◌}
 use mathlib.Core.Path.{◌≡◌, refl, sym, ap, ◌∙◌}
 use mathlib.Core.List.{List, [], ◌∷◌, ◌++◌}

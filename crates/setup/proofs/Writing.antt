@@ -1,4 +1,4 @@
--- What set_up_lem stores: a record from its rows, the records one by one, and the whole from its records and its header.
+-- What set-up stores: a record from its rows, the records one by one, and the whole from its records and its header.
 -- Rests on specs/NewRecords and arena's laws of cells.
 use Prim.Native.Nat.{ℕ, suc, ◌+◌, ◌-◌, ◌*◌, ◌≤◌, ◌<◌}
 use mathlib.Core.Path.{◌≡◌, refl, sym, ap, ◌∙◌, subst}

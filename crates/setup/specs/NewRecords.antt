@@ -1,4 +1,4 @@
--- The records of a new arena, and what the parts of set_up_lem leave. Rests on model's Arena and Cells.
+-- The records of a new arena, and what the parts of set-up leave. Rests on model's Arena and Cells.
 use Rattle.std.specs.Prelude.{ℕ, ◌-◌, ◌≤◌, ◌<◌, ◌≡◌, List, [], ◌∷◌, ◌++◌, length, take, drop, get_or}
 use Rattle.model.specs.Arena.{header_words, width, absent_links, record_of, set_up}
 use Rattle.model.specs.Cells.{cell_at}

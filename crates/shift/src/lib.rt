@@ -7,12 +7,12 @@ ghost use Rattle.model.specs.Arena.{levels_word, lists_word};
 ghost use Rattle.model.specs.Passes.{decode, Passes};
 ghost use Rattle.model.specs.Calls.{SetUpPromise};
 ghost use Rattle.setup.specs.Bare.{number_of};
-ghost use Rattle.figures.specs.Figured.{figures_of};
+ghost use Rattle.figures.specs.Figured.{figures_of, FiguresPromise};
 ghost use Rattle.figures_text.specs.Texts.{Put};
 ghost use Rattle.shift.specs.Reports.{lines_from, AnswerPromise};
 
 use arena::Slot;
-pub use figures::{Figures, FiguresAnswer, answer as figures};
+pub use figures::{Figures, FiguresAnswer};
 use setup::Setup;
 pub use shift_feed::{Desk, feed, finish};
 
@@ -27,6 +27,13 @@ pub fn set_up(w: &mut [u32]) -> Setup
     ensures { SetUpPromise 2 8 400 w.old w.new (number_of result) }
 {
     setup::set_up(w, 2, 8, 400)
+}
+
+// The figures of a list.
+pub fn figures(w: &[u32], list: Slot) -> FiguresAnswer
+    ensures { FiguresPromise list.0 w.now result }
+{
+    figures::answer(w, list)
 }
 
 // The lines of all lists; the answer is the place behind them.

@@ -1,4 +1,4 @@
--- `report::report` meets the needs of its calls: what is printed was begun by set_up_lem, and only fed since.
+-- `report::report` meets the needs of its calls: what is printed was begun by set-up, and only fed since.
 use native.Mathlib.Omega.{arith}
 use borrow.Author.Rules.{rules}
 use Rattle.report.proofs.Onwards.{text-begun}
@@ -26,7 +26,7 @@ slice-aggregate-print c = search rules
 print-requires : tie.Need-print-requires
 print-requires c κs =
     let (begun, taken, told) : tie.After-set-up × tie.After-pieces × tie.After-enum-told = search in
-    (text-begun (omega arith) begun.set_up_lem.ensures (omega (arith, taken.pieces.ok)) taken.pieces.ensures.0, told.enum_told.given.1)
+    (text-begun (omega arith) begun.sets_up.ensures (omega (arith, taken.pieces.ok)) taken.pieces.ensures.0, told.enum_told.given.1)
 
 returns : tie.Need-returns
 returns c = search rules
