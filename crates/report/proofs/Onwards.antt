@@ -1,12 +1,9 @@
 -- Pieces are fed one after the other, and at the end of the text its whole report is told. Rests on specs/Texts and shift's Reports.
 use Prim.Native.Nat.{ℕ, suc, ◌+◌, ◌^◌, ◌≤◌, ◌<◌}
 use mathlib.Core.Path.{◌≡◌, refl, sym, ap, ◌∙◌, subst}
-use mathlib.Core.Logic.{⊎_elim}
 use mathlib.Core.List.{List, [], ◌∷◌, ◌++◌, append_assoc, append-nil}
 use lib.ListN.{length, take, length-append}
 use lib.Seq.{take-append-le, take_all}
-use types.Run.{OneOf}
-use denote.Enum.Declared.{tag_of}
 use native.Mathlib.Omega.{arith}
 use Rattle.io.specs.Counts.{IsPrefixLen}
 use Rattle.model.specs.Passes.{Ranges}
@@ -15,9 +12,6 @@ use Rattle.shift_feed.specs.declared.Desk.{Desk}
 use Rattle.shift_feed.specs.Feeds.{empty, fed, ended, Goes}
 use Rattle.shift.specs.Reports.{report_of, text_of, AnswerPromise, Fed, none, piece, joined, Run}
 use Rattle.shift.proofs.Reporting.{reporting}
-use Rattle.report.specs.declared.Input.{Input}
-use Rattle.report.specs.declared.Input.TheVariants.{Open}
-use Rattle.report.specs.contracts.Input.{the_type}
 use Rattle.report.specs.Texts.{Onward, Begun, Whole}
 
 pub nothing_read : {d : Desk} {w : List ℕ} (n : ℕ) → Onward n d w d w
@@ -71,13 +65,6 @@ text-begun {first = first} {second} {counted = counted} h p fits on = record {
       room_least = omega arith;
       room_most = omega arith;
     }
-
--- the other cases of the input
-pub not_open : (i : Input) → OneOf (1 ∷ 2 ∷ []) (tag_of the_type i) → i ≡ Open → ⊥
-not_open i o e = ⊎_elim differs differs (subst (λ (z : Input). OneOf (1 ∷ 2 ∷ []) (tag_of the_type z)) e o)
-  where
-    differs : {n : ℕ} → 0 ≡ suc n → ⊥
-    differs t = omega (arith, t)
 
 -- a text and what stands behind it
 front-told : (text rest : List ℕ) {out : List ℕ} {n : ℕ} → n ≡ length text → out ≡ text ++ rest → IsPrefixLen n out × (take n out ≡ text)
