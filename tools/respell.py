@@ -5,14 +5,14 @@ usage: python3 tools/respell.py        at the top, once, right after the kit's o
 
 A dash stays where it joins the names of two definitions; elsewhere it becomes an underscore. Names of src/, exported names, strings, inputs and outputs
 stay: only names that specs/ or proofs/*.antt declare are turned, in .antt and .rt files, in the must-fail edits, and in the pages where they stand in
-backticks. A name whose new spelling is taken already stays as it is, and is printed.
+backticks. Where two would get one name, the definition gets it and the lemma ends in _lem, which is printed; so is a file in which an old name and
+another's new one both stand.
 """
 import collections
 import os
 import re
 
 TOKEN = re.compile(r"[^\s(){}\[\];,.\"`:|\u00ab\u00bb]+")
-DECLARED = re.compile(r"(?m)^( *)(abbrev |unfoldable )?(?:pub )?([^\s:(){}.,;]+)(?: [^\n:=]*)? *: ")
 BY_HAND = {"key-walk": "plain_key_walk", "rank-walk": "plain_rank_walk", "end-from": "ended_from", "footing-at": "footing_of", "key-at": "key_at_lem", "withDigit": "with_digit", "turnedLine": "turned_line", "setupNumber": "setup_number", "totalNodes": "total_nodes"}
 GENERATED = ("Proof.antt", "Answers.antt", "Invariants.antt")
 
@@ -72,6 +72,7 @@ def main():
             to = out
         if to != name:
             new[name] = to
+
     def spoken(text, old):
         return any(m[0] == old and not text[: m.start()].endswith(".") and not text[m.end() :].startswith(".") for m in TOKEN.finditer(text))
 

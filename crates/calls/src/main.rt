@@ -5,7 +5,6 @@ mod acts;
 mod lines;
 
 ghost use Rattle.std.specs.Prelude.{◌≤◌, true, ◌≡◌, length};
-ghost use Rattle.io.specs.Counts.{IsPrefixLen};
 ghost use Rattle.script_line.specs.Lines.{Within};
 ghost use Rattle.calls.specs.Desks.{Ready};
 
@@ -95,23 +94,14 @@ fn finish(words: &mut [u32], numbers: &mut [u32], desk: Desk) -> Desk
     }
 }
 
-// How many bytes have arrived, at the buffer's front: none at the end of the input, nor where it cannot be read.
-fn arrived(input: &mut Stdin, buffer: &mut [u8]) -> usize
-    ensures { IsPrefixLen result buffer.new }
-{
-    match input.read(buffer) {
-        Ok(n) => n,
-        Err(_) => 0,
-    }
-}
-
 // Runs what has arrived.
 fn turn(input: &mut Stdin, words: &mut [u32], numbers: &mut [u32], desk: Desk) -> Desk
     requires { Ready desk words.old numbers.old }
     ensures { Ready result words.new numbers.new }
 {
     let mut buffer = io::large_buffer();
-    let n = arrived(input, &mut buffer);
+    // An input that cannot be read has ended.
+    let n = input.read(&mut buffer).unwrap_or(0);
     if n == 0 {
         return finish(words, numbers, desk);
     }

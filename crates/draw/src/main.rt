@@ -10,7 +10,6 @@ mod sheet;
 mod svg;
 
 ghost use Rattle.std.specs.Prelude.{◌≡◌};
-ghost use Rattle.io.specs.Counts.{IsPrefixLen};
 ghost use Rattle.model.specs.Passes.{Passes};
 ghost use Rattle.script_line.specs.Lines.{Within};
 ghost use Rattle.draw.specs.Forms.{form_of};
@@ -125,22 +124,13 @@ fn finish(numbers: &mut [u32], line: Line)
     }
 }
 
-// How many bytes have arrived, at the buffer's front: none at the end of the input, nor where it cannot be read.
-fn arrived(input: &mut Stdin, buffer: &mut [u8]) -> usize
-    ensures { IsPrefixLen result buffer.new }
-{
-    match input.read(buffer) {
-        Ok(n) => n,
-        Err(_) => 0,
-    }
-}
-
 fn turn(input: &mut Stdin, numbers: &mut [u32], line: Line) -> Desk
     requires { Within line numbers.old }
     ensures { Within result.line numbers.new }
 {
     let mut buffer = io::large_buffer();
-    let n = arrived(input, &mut buffer);
+    // An input that cannot be read has ended.
+    let n = input.read(&mut buffer).unwrap_or(0);
     if n == 0 {
         finish(numbers, line);
         let blank = Line::new();

@@ -36,28 +36,22 @@ pub struct Taken {
     pub spent: u64,
 }
 
-// How long a fault's text is without the number that std writes behind it, as in "Is a directory (os error 21)".
-fn text_length(said: &[u8]) -> usize
-    ensures { IsPrefixLen result said.now }
-{
-    for (i, b) in said.iter().enumerate() {
-        if *b == b'(' && i > 0 {
-            return i - 1;
-        }
+// A fault's text without the number that std writes behind it, as in "Is a directory (os error 21)".
+fn text_of(said: &str) -> &str {
+    match said.split_once(" (os error ") {
+        Some((text, _)) => text,
+        None => said,
     }
-    said.len()
 }
 
 // Tells what failed, and why.
-fn fail(alloc: Global, what: &[u8], fault: &Error) {
+fn fail(alloc: Global, what: &[u8], why: &Error) {
     io::write_all(STDERR, b"report: ");
     io::write_all(STDERR, what);
     io::write_all(STDERR, b": ");
-    match format!(in alloc; "{fault}") {
-        Ok(text) => {
-            let said = text.as_bytes();
-            let n = text_length(said);
-            io::write_all(STDERR, &said[..n]);
+    match format!(in alloc; "{why}") {
+        Ok(said) => {
+            io::write_all(STDERR, text_of(said.as_str()).as_bytes());
         }
         Err(_) => {
             io::write_all(STDERR, b"Cannot allocate memory");
@@ -67,11 +61,11 @@ fn fail(alloc: Global, what: &[u8], fault: &Error) {
 }
 
 // A read that a signal broke off is made again.
-fn fault(alloc: Global, name: &[u8], fault: &Error) -> Input {
-    if fault.kind() == ErrorKind::Interrupted {
+fn fault(alloc: Global, name: &[u8], why: &Error) -> Input {
+    if why.kind() == ErrorKind::Interrupted {
         return Input::Open;
     }
-    fail(alloc, name, fault);
+    fail(alloc, name, why);
     Input::Failed
 }
 
