@@ -8,6 +8,7 @@ use lib.Dec.{eqb}
 use lib.ListN.{length, drop}
 use lib.Seq.{drop-drop}
 use native.Mathlib.Nat.{add-suc}
+use Rattle.std.specs.Prelude.{Option, Some, None}
 use native.Mathlib.Omega.{arith}
 use borrow.Author.Tests.{le-leb, lt-leb, lt-ltb, eq-eqb, ne_eqb}
 use Rattle.model.specs.Nodes.{Node, N, key_at}
@@ -27,7 +28,7 @@ use Rattle.walk.proofs.Ahead.{nothing, there, look, ahead, key_none, key_first, 
 use Rattle.key_walk.specs.Midway.{visitor_at, Stands, end_from, tally_from, Midway, Carries, Arrived, WalkedOn}
 use Rattle.key_walk.specs.declared.Visitor.{Visitor}
 use Rattle.key_walk.specs.declared.Walked.{Walked}
-use Rattle.key_walk.specs.declared.Walked.TheVariants.{Found, Missing, Over as Out}
+use Rattle.key_walk.specs.declared.Walked.TheVariants.{Found, Missing}
 
 -- ---- the closed form from one look to the next ----
 -- on to a smaller key, d + 1 ranks on
@@ -145,10 +146,10 @@ module _ {w : List ℕ} {m a t j : ℕ} {from v : Visitor} (g : Carries w m a t 
       → Arrived w m a t (end_from w a t j from) (tally_from w a t j from) from.left met s r n
   then_ends z = record { stands = z.stands; is = rw g.midway.rank at z.is; rank = rw g.midway.rank at z.rank; left = omega (arith, g.midway.left, z.left) }
 
-  pub then_walked : (r : Walked) → WalkedOn w m a t 0 v r → WalkedOn w m a t j from r
-  then_walked (Found u) z = then_ends z
-  then_walked (Missing u) z = then_ends z
-  then_walked Out z = omega (arith, g.midway.left, z)
+  pub then_walked : (r : Option Walked) → WalkedOn w m a t 0 v r → WalkedOn w m a t j from r
+  then_walked (Some (Found u)) z = then_ends z
+  then_walked (Some (Missing u)) z = then_ends z
+  then_walked None z = omega (arith, g.midway.left, z)
 
 -- ---- the model's answer ----
 module _ (S : State) (a t allowance : ℕ) (l : a < length S.lists) where

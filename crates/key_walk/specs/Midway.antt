@@ -1,5 +1,5 @@
 -- Where the walk by key stands between two looks, and where it ends, in its closed form. Rests on model's specs and on walk's Standing.
-use Rattle.std.specs.Prelude.{ℕ, suc, ◌+◌, ◌<◌, ◌≡◌, Bool, true, false, cond, List, length, drop}
+use Rattle.std.specs.Prelude.{ℕ, suc, ◌+◌, ◌<◌, ◌≡◌, Bool, true, false, cond, List, length, drop, Option, Some, None}
 use Rattle.model.specs.Closed.{ends, tally, key_is}
 use Rattle.model.specs.Cells.{base_of}
 use Rattle.model.specs.Passes.{nodes}
@@ -7,10 +7,8 @@ use Rattle.arena.specs.declared.Slot.{Slot}
 use Rattle.arena.specs.declared.Rank.{Rank}
 use Rattle.walk.specs.Standing.{Standing}
 use Rattle.key_walk.specs.declared.Visitor.{Visitor}
-use Rattle.key_walk.specs.declared.Hop.{Hop}
-use Rattle.key_walk.specs.declared.Hop.TheVariants.{On, Over}
 use Rattle.key_walk.specs.declared.Walked.{Walked}
-use Rattle.key_walk.specs.declared.Walked.TheVariants.{Found, Missing, Over as Out}
+use Rattle.key_walk.specs.declared.Walked.TheVariants.{Found, Missing}
 
 -- A visitor at a slot and its rank, which knows where the record of its slot begins.
 abbrev pub visitor_at : ℕ → Slot → Rank → ℕ → Visitor
@@ -41,9 +39,9 @@ pub record Carries (w : List ℕ) (m a t j : ℕ) (from : Visitor) (k : ℕ) (v 
   pub base : v.base ≡ base_of m v.slot.0
 
 -- All levels are done; or the walk would have needed more comparisons than it may make.
-abbrev pub Down : List ℕ → ℕ → ℕ → ℕ → ℕ → Visitor → Hop → Type 0
-Down w m a t j from (On v) = Carries w m a t j from 0 v
-Down w m a t j from Over = from.left < tally_from w a t j from
+abbrev pub Down : List ℕ → ℕ → ℕ → ℕ → ℕ → Visitor → Option Visitor → Type 0
+Down w m a t j from (Some v) = Carries w m a t j from 0 v
+Down w m a t j from None = from.left < tally_from w a t j from
 
 -- It has ended at slot s of rank r, with n comparisons left; `met` says whether on the key.
 pub record Arrived (w : List ℕ) (m a t E T allowance : ℕ) (met : Bool) (s r n : ℕ) : Type 0 where
@@ -55,7 +53,7 @@ pub record Arrived (w : List ℕ) (m a t E T allowance : ℕ) (met : Bool) (s r 
 abbrev Ended : List ℕ → ℕ → ℕ → ℕ → ℕ → Visitor → Bool → Visitor → Type 0
 Ended w m a t j from met v = Arrived w m a t (end_from w a t j from) (tally_from w a t j from) from.left met v.slot.0 v.rank.0 v.left
 
-abbrev pub WalkedOn : List ℕ → ℕ → ℕ → ℕ → ℕ → Visitor → Walked → Type 0
-WalkedOn w m a t j from (Found v) = Ended w m a t j from true v
-WalkedOn w m a t j from (Missing v) = Ended w m a t j from false v
-WalkedOn w m a t j from Out = from.left < tally_from w a t j from
+abbrev pub WalkedOn : List ℕ → ℕ → ℕ → ℕ → ℕ → Visitor → Option Walked → Type 0
+WalkedOn w m a t j from (Some (Found v)) = Ended w m a t j from true v
+WalkedOn w m a t j from (Some (Missing v)) = Ended w m a t j from false v
+WalkedOn w m a t j from None = from.left < tally_from w a t j from

@@ -32,25 +32,20 @@ impl Visitor {
     }
 }
 
-// After the levels: on, or out of comparisons.
-#[derive(Clone, Copy)]
-pub enum Hop {
-    On(Visitor),
-    Over,
-}
-
-// Where a walk ends: on the key, or before the first that is greater; or out of comparisons.
+// Where a walk ends: on the key, or before the first that is greater.
 #[derive(Clone, Copy)]
 pub enum Walked {
     Found(Visitor),
     Missing(Visitor),
-    Over,
 }
 
-// What a search answers, with the tally; `Beyond` with the allowance.
+// What a search answers, with the tally.
 #[derive(Clone, Copy)]
 pub enum Searched {
     Found(Index, u32),
     Missing(Index, u32),
-    Beyond(u32),
 }
+
+// A search would take more comparisons than its allowance, which it tells.
+#[derive(Clone, Copy)]
+pub struct Beyond(pub u32);

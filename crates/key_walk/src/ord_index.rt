@@ -6,11 +6,18 @@ ghost use Rattle.arena.specs.Owners.{Listed};
 ghost use Rattle.key_walk.specs.Midway.{Stands, Down, WalkedOn};
 ghost use Rattle.key_walk.specs.SearchAnswer.{answer_of};
 
-use crate::{Hop, Searched, Visitor, Walked};
+use crate::{Beyond, Searched, Visitor, Walked};
 use arena::{Key, Rank, Slot};
 
 // Down the levels below `level`: along each while the link's key is smaller.
-fn descend(w: &[u32], m: usize, list: Slot, key: Key, from: Visitor, level: usize) -> Hop
+fn descend(
+    w: &[u32],
+    m: usize,
+    list: Slot,
+    key: Key,
+    from: Visitor,
+    level: usize,
+) -> Option<Visitor>
     requires { Stands w.now m list.0 level from }
     ensures { Down w.now m list.0 key level from result }
 {
@@ -23,7 +30,7 @@ fn descend(w: &[u32], m: usize, list: Slot, key: Key, from: Visitor, level: usiz
             continue;
         }
         if v.left == 0 {
-            return Hop::Over;
+            return None;
         }
         v.left = v.left - 1;
         let there = arena::base_of(m, to);
@@ -38,11 +45,11 @@ fn descend(w: &[u32], m: usize, list: Slot, key: Key, from: Visitor, level: usiz
         v.slot = to;
         v.base = there;
     }
-    Hop::On(v)
+    Some(v)
 }
 
 // Below level 0, by next.
-fn follow(w: &[u32], m: usize, list: Slot, key: Key, from: Visitor) -> Walked
+fn follow(w: &[u32], m: usize, list: Slot, key: Key, from: Visitor) -> Option<Walked>
     requires { Stands w.now m list.0 0 from }
     ensures { WalkedOn w.now m list.0 key 0 from result }
 {
@@ -50,48 +57,53 @@ fn follow(w: &[u32], m: usize, list: Slot, key: Key, from: Visitor) -> Walked
     loop {
         let to = arena::word(w, u.base + arena::NEXT);
         if to == Slot::NONE.0 {
-            return Walked::Missing(u);
+            return Some(Walked::Missing(u));
         }
         if u.left == 0 {
-            return Walked::Over;
+            return None;
         }
         u.left = u.left - 1;
         let next = Slot(to);
         let there = arena::base_of(m, next);
         let met = arena::key_in(w, there);
         if arena::below(key, met) {
-            return Walked::Missing(u);
+            return Some(Walked::Missing(u));
         }
         let rank = u.rank.plus(1);
         u.rank = rank;
         u.slot = next;
         u.base = there;
         if arena::same(key, met) {
-            return Walked::Found(u);
+            return Some(Walked::Found(u));
         }
     }
 }
 
-// The walk on from where a visitor stands in a list, with the levels below `level` still to come.
-pub fn walk(w: &[u32], m: usize, list: Slot, key: Key, from: Visitor, level: usize) -> Walked
+// The walk on from where a visitor stands in a list, with the levels below `level` still to come; none, where it would take more comparisons.
+pub fn walk(
+    w: &[u32],
+    m: usize,
+    list: Slot,
+    key: Key,
+    from: Visitor,
+    level: usize,
+) -> Option<Walked>
     requires { Stands w.now m list.0 level from }
     ensures { WalkedOn w.now m list.0 key level from result }
 {
-    let Hop::On(v) = descend(w, m, list, key, from, level) else {
-        return Walked::Over;
-    };
+    let v = descend(w, m, list, key, from, level)?;
     follow(w, m, list, key, v)
 }
 
 // The walk from the head, with at most `allowance` comparisons.
-pub fn search(w: &[u32], m: usize, list: Slot, key: Key, allowance: u32) -> Searched
+pub fn search(w: &[u32], m: usize, list: Slot, key: Key, allowance: u32) -> Result<Searched, Beyond>
     requires { Listed w.now m list.0 }
     ensures { answer_of result ≡ answer_to (decode w.now) (search list.0 key allowance) }
 {
     let from = Visitor::at(m, list, Rank::HEAD, allowance);
     match walk(w, m, list, key, from, m) {
-        Walked::Found(v) => Searched::Found(v.rank.to_index(), allowance - v.left),
-        Walked::Missing(v) => Searched::Missing(v.rank.after(), allowance - v.left),
-        Walked::Over => Searched::Beyond(allowance),
+        Some(Walked::Found(v)) => Ok(Searched::Found(v.rank.to_index(), allowance - v.left)),
+        Some(Walked::Missing(v)) => Ok(Searched::Missing(v.rank.after(), allowance - v.left)),
+        None => Err(Beyond(allowance)),
     }
 }

@@ -3,14 +3,14 @@ use native.Mathlib.Omega.{arith}
 use Rattle.key_walk.proofs.Answering.{answers_beyond, answers_ended}
 use Rattle.key_walk.proofs.ord_index.search.Goals as goal
 
-pub returns-in-Found : goal.returns-in-Found
-returns-in-Found c =
-    answers_ended _ _ c.requires (rw (c.in-Found.is, c.at-from.ensures) at c.walk.ensures) _ (omega (arith, c.to_index.ensures))
+pub returns-in-Some-Found : goal.returns-in-Some-Found
+returns-in-Some-Found c =
+    answers_ended _ _ c.requires (rw (c.in-Some-Found.is, c.in-Some-Found.field-0-is, c.at-from.ensures) at c.walk.ensures) _ (omega (arith, c.to_index.ensures))
 
-pub returns-in-Missing : goal.returns-in-Missing
-returns-in-Missing c =
-    answers_ended _ _ c.requires (rw (c.in-Missing.is, c.at-from.ensures) at c.walk.ensures) _ c.after.ensures
+pub returns-in-Some-Missing : goal.returns-in-Some-Missing
+returns-in-Some-Missing c =
+    answers_ended _ _ c.requires (rw (c.in-Some-Missing.is, c.in-Some-Missing.field-0-is, c.at-from.ensures) at c.walk.ensures) _ c.after.ensures
 
-pub returns-in-Over : goal.returns-in-Over
-returns-in-Over c =
-    answers_beyond _ _ c.requires (rw (c.in-Over.is, c.at-from.ensures) at c.walk.ensures)
+pub returns-in-None : goal.returns-in-None
+returns-in-None c =
+    answers_beyond _ _ c.requires (rw (c.in-None.is, c.at-from.ensures) at c.walk.ensures)
