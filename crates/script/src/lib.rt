@@ -3,4 +3,9 @@
 
 mod text;
 
-pub use text::{Text, unknown};
+pub use text::Text;
+
+// The answer to a line that is no item.
+pub fn unknown() {
+    io::write_all(1, b"?\n");
+}

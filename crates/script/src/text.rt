@@ -2,22 +2,11 @@
 ghost use Rattle.std.specs.Prelude.{[], ◌∷◌, ◌≡◌};
 ghost use Rattle.script.specs.Texts.{written, Grown, GrownByDecimal};
 
-fn print_front(bytes: &[u8; 96], len: usize) {
-    let all: &[u8] = bytes;
-    if len <= all.len() {
-        io::write_all(1, &all[..len]);
-    }
-}
-
+// In fixed memory, since the project uses no heap: a `String` would need an allocator for each line.
 #[derive(Clone, Copy)]
 pub struct Text {
     pub bytes: [u8; 96],
     pub len: usize,
-}
-
-// The answer to a line that is no item.
-pub fn unknown() {
-    Text::new().byte(b'?').byte(b'\n').print();
 }
 
 impl Text {
@@ -31,35 +20,30 @@ impl Text {
     }
 
     // One byte more; a full line takes none.
-    pub fn byte(self, b: u8) -> Text
+    pub fn byte(mut self, b: u8) -> Text
         ensures { Grown self (b ∷ []) result }
     {
-        let mut t = self;
-        let at = t.len;
-        if at < 96 {
-            t.bytes[at] = b;
-            t.len = at + 1;
+        if self.len < 96 {
+            self.bytes[self.len] = b;
+            self.len += 1;
         }
-        t
+        self
     }
 
-    pub fn bytes(self, more: &[u8]) -> Text
+    pub fn bytes(mut self, more: &[u8]) -> Text
         ensures { Grown self more.now result }
     {
-        let mut t = self;
-        let mut i: usize = 0;
-        while i < more.len() {
-            t = t.byte(more[i]);
-            i += 1;
+        for b in more {
+            self = self.byte(*b);
         }
-        t
+        self
     }
 
     // n in decimal digits.
     pub fn decimal(self, n: u32) -> Text
         ensures { GrownByDecimal self n result }
     {
-        self.decimal_u64(n as u64)
+        self.decimal_u64(u64::from(n))
     }
 
     pub fn decimal_u64(self, n: u64) -> Text
@@ -70,9 +54,9 @@ impl Text {
         self.bytes(&digits[..k])
     }
 
-    pub fn print(self) {
-        let bytes = self.bytes;
-        let len = self.len;
-        print_front(&bytes, len);
+    pub fn print(&self) {
+        if let Some(front) = self.bytes.get(..self.len) {
+            io::write_all(1, front);
+        }
     }
 }

@@ -3,8 +3,8 @@ use borrow.Author.Rules.{rules}
 use Rattle.script.proofs.TextLaws.{one_more, full}
 use Rattle.script.proofs.text.Text.byte.Goals as goal
 
-pub returns-then-at-lt96 : goal.returns-then-at-lt96
-returns-then-at-lt96 c = one_more c.args.self (search rules) c.args.b c.if-at-lt96.true
+pub returns-then-self-lt96 : goal.returns-then-self-lt96
+returns-then-self-lt96 c = one_more c.args.self (search rules) c.args.b c.if-self-lt96.true
 
-pub returns-else-at-lt96 : goal.returns-else-at-lt96
-returns-else-at-lt96 c = full c.args.self (search rules) c.args.b c.if-at-lt96.false
+pub returns-else-self-lt96 : goal.returns-else-self-lt96
+returns-else-self-lt96 c = full c.args.self (search rules) c.args.b c.if-self-lt96.false

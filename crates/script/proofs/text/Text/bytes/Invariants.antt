@@ -1,13 +1,9 @@
--- `script::text::Text::bytes` meets its contract. The loop's invariant: the first i bytes stand behind what was there.
-use Prim.Native.Nat.{◌≤◌, ◌-◌}
+-- `script::text::Text::bytes` meets its contract. The loop's invariant: the bytes so far stand behind what was there.
 use mathlib.Core.List.{◌++◌}
 use mathlib.Core.Path.{◌≡◌}
-use lib.ListN.{length, take}
+use lib.ListN.{take}
 use Rattle.script.specs.Texts.{written}
 use Rattle.script.proofs.text.Text.bytes.Given as goal
 
-abbrev pub invariant-loop-i : goal.invariant-loop-i
-invariant-loop-i l = (l.i ≤ length l.more) × (written l.t ≡ take 96 (written l.initial.t ++ take l.i l.more))
-
-abbrev pub decreases-loop-i : goal.decreases-loop-i
-decreases-loop-i l = length l.more - l.i
+abbrev pub invariant-loop-b : goal.invariant-loop-b
+invariant-loop-b l = written l.self ≡ take 96 (written l.initial.self ++ take l.b-index l.more)
