@@ -1,74 +1,57 @@
-// The items of a call script that change the lent slice itself: `new`, `words` and `poke`. The lent slice is the first `len` words.
+// The words that a call script lends, and the items that change them: `new`, `words` and `poke`.
 #![tactic(auto)]
 
-ghost use Rattle.std.specs.Prelude.{◌≤◌, cond, false, ◌≡◌, leb, eqb, length, replicate, set};
-ghost use Rattle.lent.specs.Fronts.{over, Relent};
+ghost use Rattle.std.specs.Prelude.{◌≡◌, ◌≤◌, ◌<◌, ◌↔◌, cond, false, leb, eqb, length, replicate, set, IsSome};
+ghost use Rattle.lent.specs.Fronts.{Relent};
 
-fn fill(words: &mut [u32], n: usize, v: u32)
-    requires { n ≤ length words.old }
-    ensures { words.new ≡ over (replicate n v) words.old }
-{
-    let mut i: usize = 0;
-    while i < n {
-        words[i] = v;
-        i += 1;
+// Of N words the first `len` are lent.
+pub struct Lent<const N: usize> {
+    pub words: [u32; N],
+    pub len: usize,
+    pub ghost in_bounds: { len ≤ N },
+}
+
+impl<const N: usize> Lent<N> {
+    // Lends n words, each v. More than N are refused, and nothing changes.
+    pub fn renew(&mut self, n: u32, v: u32) -> Option<()>
+        ensures told { IsSome result ↔ n ≤ N }
+        ensures relent { Relent (leb n (length self.old.words)) (replicate n v) self.old.len self.old.words self.new.words self.new.len }
+    {
+        let next = arena::wide(n);
+        if next > N {
+            return None;
+        }
+        self.words[..next].fill(v);
+        self.len = next;
+        Some(())
+    }
+
+    // The same for given words: one at least.
+    pub fn given(&mut self, numbers: &[u32]) -> Option<()>
+        ensures told { IsSome result ↔ (0 < length numbers.now) × (length numbers.now ≤ N) }
+        ensures relent { Relent
+            (cond (eqb (length numbers.now) 0) false (leb (length numbers.now) (length self.old.words)))
+            numbers.now self.old.len self.old.words self.new.words self.new.len }
+    {
+        let next = numbers.len();
+        if next == 0 || next > N {
+            return None;
+        }
+        self.words[..next].copy_from_slice(numbers);
+        self.len = next;
+        Some(())
     }
 }
 
-fn copy(words: &mut [u32], numbers: &[u32])
-    requires { length numbers.now ≤ length words.old }
-    ensures { words.new ≡ over numbers.now words.old }
-{
-    let mut i: usize = 0;
-    while i < numbers.len() {
-        words[i] = numbers[i];
-        i += 1;
-    }
-}
-
-// The new length; the old one if the words are more than can be lent.
-pub fn renew(words: &mut [u32], len: usize, n: u32, v: u32) -> usize
-    requires { len ≤ length words.old }
-    ensures upper_bound { result ≤ length words.new }
-    ensures relent { Relent (leb n (length words.old)) (replicate n v) len words.old words.new result }
-{
-    let next = arena::wide(n);
-    if next <= words.len() {
-        fill(words, next, v);
-        return next;
-    }
-    script::unknown();
-    len
-}
-
-// The same for given words: one at least.
-pub fn given(words: &mut [u32], len: usize, numbers: &[u32]) -> usize
-    requires { len ≤ length words.old }
-    ensures upper_bound { result ≤ length words.new }
-    ensures relent { Relent
-        (cond (eqb (length numbers.now) 0) false (leb (length numbers.now) (length words.old)))
-        numbers.now len words.old words.new result }
-{
-    let next = numbers.len();
-    if next == 0 {
-        script::unknown();
-        return len;
-    }
-    if next <= words.len() {
-        copy(words, numbers);
-        return next;
-    }
-    script::unknown();
-    len
-}
-
-pub fn poke(w: &mut [u32], i: u32, v: u32)
-    ensures { w.new ≡ set w.old i v }
+// Word i becomes v. Outside the slice nothing changes.
+pub fn poke(w: &mut [u32], i: u32, v: u32) -> Option<()>
+    ensures told { IsSome result ↔ i < length w.old }
+    ensures stored { w.new ≡ set w.old i v }
 {
     let at = arena::wide(i);
-    if at < w.len() {
-        w[at] = v;
-    } else {
-        script::unknown();
+    if at >= w.len() {
+        return None;
     }
+    w[at] = v;
+    Some(())
 }
