@@ -4,10 +4,10 @@
 mod names;
 
 ghost use Rattle.std.specs.Prelude.{◌≡◌};
-ghost use Rattle.items.specs.Tables.{item_of, named, bare, on_one, on_two, on_three};
+ghost use Rattle.items.specs.Tables.{item_of};
 
-// What a line asks for; `Unknown` is what is no item.
-#[derive(Clone, Copy)]
+// What a line asks for.
+#[derive(Clone, Copy, Debug, PartialEq, Eq)]
 pub enum Item {
     Words,
     Check,
@@ -30,114 +30,36 @@ pub enum Item {
     Insert,
     SplitAt,
     SplitKey,
-    Unknown,
-}
-
-fn with_none(name: u64) -> Item
-    ensures { result ≡ named name bare }
-{
-    if name == names::CHECK {
-        return Item::Check;
-    }
-    if name == names::DUMP {
-        return Item::Dump;
-    }
-    Item::Unknown
-}
-
-fn with_one(name: u64) -> Item
-    ensures { result ≡ named name on_one }
-{
-    if name == names::CLEAR {
-        return Item::Clear;
-    }
-    if name == names::MIDDLE {
-        return Item::Middle;
-    }
-    if name == names::LEVEL {
-        return Item::Level;
-    }
-    if name == names::LINKMAKE {
-        return Item::LinkMake;
-    }
-    if name == names::LINKRAISE {
-        return Item::LinkRaise;
-    }
-    if name == names::LINKLOWER {
-        return Item::LinkLower;
-    }
-    Item::Unknown
-}
-
-fn with_two(name: u64) -> Item
-    ensures { result ≡ named name on_two }
-{
-    if name == names::NEW {
-        return Item::New;
-    }
-    if name == names::POKE {
-        return Item::Poke;
-    }
-    if name == names::READ {
-        return Item::Read;
-    }
-    if name == names::REMOVEKEY {
-        return Item::RemoveKey;
-    }
-    if name == names::REMOVEAT {
-        return Item::RemoveAt;
-    }
-    if name == names::TRUNCATE {
-        return Item::Truncate;
-    }
-    if name == names::APPEND {
-        return Item::Append;
-    }
-    Item::Unknown
-}
-
-fn with_three(name: u64) -> Item
-    ensures { result ≡ named name on_three }
-{
-    if name == names::SETUP {
-        return Item::Setup;
-    }
-    if name == names::SEARCH {
-        return Item::Search;
-    }
-    if name == names::INSERT {
-        return Item::Insert;
-    }
-    if name == names::SPLITAT {
-        return Item::SplitAt;
-    }
-    if name == names::SPLITKEY {
-        return Item::SplitKey;
-    }
-    Item::Unknown
 }
 
 // The item of a name with so many numbers; `words` takes any but none.
-pub fn item_of(name: u64, count: usize) -> Item
+#[tactic(auto, unfolding(crate::specs::Tables::item_of))]
+pub fn item_of(name: u64, count: usize) -> Option<Item>
     ensures { result ≡ item_of name count }
 {
-    if name == names::WORDS {
-        if count == 0 {
-            return Item::Unknown;
-        }
-        return Item::Words;
+    match (name, count) {
+        (names::WORDS, 0) => None,
+        (names::WORDS, _) => Some(Item::Words),
+        (names::CHECK, 0) => Some(Item::Check),
+        (names::DUMP, 0) => Some(Item::Dump),
+        (names::CLEAR, 1) => Some(Item::Clear),
+        (names::MIDDLE, 1) => Some(Item::Middle),
+        (names::LEVEL, 1) => Some(Item::Level),
+        (names::LINKMAKE, 1) => Some(Item::LinkMake),
+        (names::LINKRAISE, 1) => Some(Item::LinkRaise),
+        (names::LINKLOWER, 1) => Some(Item::LinkLower),
+        (names::NEW, 2) => Some(Item::New),
+        (names::POKE, 2) => Some(Item::Poke),
+        (names::READ, 2) => Some(Item::Read),
+        (names::REMOVEKEY, 2) => Some(Item::RemoveKey),
+        (names::REMOVEAT, 2) => Some(Item::RemoveAt),
+        (names::TRUNCATE, 2) => Some(Item::Truncate),
+        (names::APPEND, 2) => Some(Item::Append),
+        (names::SETUP, 3) => Some(Item::Setup),
+        (names::SEARCH, 3) => Some(Item::Search),
+        (names::INSERT, 3) => Some(Item::Insert),
+        (names::SPLITAT, 3) => Some(Item::SplitAt),
+        (names::SPLITKEY, 3) => Some(Item::SplitKey),
+        _ => None,
     }
-    if count == 0 {
-        return with_none(name);
-    }
-    if count == 1 {
-        return with_one(name);
-    }
-    if count == 2 {
-        return with_two(name);
-    }
-    if count == 3 {
-        return with_three(name);
-    }
-    Item::Unknown
 }
