@@ -25,10 +25,11 @@ pub fn reach(w: &[u32], m: usize, list: Slot, from: Spot, level: usize, target: 
     let mut v = from;
     let mut base = arena::base_of(m, from.slot);
     let mut stage = level;
+    // No `for`: a turn goes along a stage or down to the next, so that no count of turns stands before.
     while 0 < stage {
         let far = arena::distance_in(w, base, stage);
         if !can_follow(far, target.0 - v.rank.0) {
-            stage = stage - 1;
+            stage -= 1;
             continue;
         }
         let to = arena::target_in(w, base, stage);

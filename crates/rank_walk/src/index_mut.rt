@@ -8,20 +8,14 @@ ghost use Rattle.walk.specs.Standing.{Standing};
 ghost use Rattle.rank_walk.specs.Ranks.{WalkedByRank};
 
 use crate::index::length as count;
-use crate::{Ended, Reached, Spot};
+use crate::{Reached, Spot};
 use arena::{Index, Path, Rank, Slot};
 
 // Whether a link can be followed: its distance `far` is not that of an absent one, 0, and leads no more than `rest` ranks on.
 pub fn can_follow(far: u32, rest: u32) -> bool
     ensures { Decides result ((0 < far) × (far ≤ rest)) }
 {
-    if far == 0 {
-        return false;
-    }
-    if rest < far {
-        return false;
-    }
-    true
+    0 < far && far <= rest
 }
 
 // By next to rank `limit`.
@@ -29,15 +23,11 @@ pub fn seek_next(w: &[u32], m: usize, list: Slot, from: Spot, limit: Rank) -> Sl
     requires { Standing w.now m list.0 limit.0 0 from.slot.0 from.rank.0 }
     ensures { result.0 ≡ slot_at list.0 (nodes w.now list.0) limit.0 }
 {
-    let mut v = from;
-    while v.rank.0 < limit.0 {
-        let to = arena::cell(w, m, v.slot, arena::NEXT);
-        v = Spot {
-            slot: Slot(to),
-            rank: v.rank.plus(1),
-        };
+    let mut slot = from.slot;
+    for _rank in from.rank.0..limit.0 {
+        slot = Slot(arena::cell(w, m, slot, arena::NEXT));
     }
-    v.slot
+    slot
 }
 
 // The walk by rank to index i, stopped one short: the precursors, and the slot just before the index.
@@ -54,15 +44,13 @@ pub fn seek(w: &[u32], m: usize, list: Slot, i: Index) -> Path
     };
     let mut base = arena::base_of(m, list);
     let mut stage = m;
+    // No `for`: a turn goes along a stage or down to the next, so that no count of turns stands before.
     while 0 < stage {
         let far = arena::distance_in(w, base, stage);
         if !can_follow(far, limit.0 - v.rank.0) {
-            let l = stage - 1;
-            let at = v.slot;
-            let rank = v.rank;
-            slots[l] = at;
-            ranks[l] = rank;
-            stage = l;
+            stage -= 1;
+            slots[stage] = v.slot;
+            ranks[stage] = v.rank;
             continue;
         }
         let to = arena::target_in(w, base, stage);
@@ -82,30 +70,27 @@ pub fn by_rank(w: &[u32], m: usize, list: Slot, target: Rank) -> Reached
     ensures { WalkedByRank w.now m list.0 target.0 result }
 {
     if target.0 == Rank::HEAD.0 {
-        return Reached {
+        let path = Path {
             slots: [list; 16],
             ranks: [Rank::HEAD; 16],
-            ended: Ended::At(list),
+            end: list,
+        };
+        return Reached {
+            path,
+            ended: Some(list),
         };
     }
     let n = count(w, m, list);
     if n < target.0 {
-        let p = seek(w, m, list, Index(n));
-        let slots = p.slots;
-        let ranks = p.ranks;
         return Reached {
-            slots,
-            ranks,
-            ended: Ended::None,
+            path: seek(w, m, list, Index(n)),
+            ended: None,
         };
     }
-    let p = seek(w, m, list, target.to_index());
-    let slots = p.slots;
-    let ranks = p.ranks;
-    let to = arena::cell(w, m, p.end, arena::NEXT);
+    let path = seek(w, m, list, target.to_index());
+    let to = arena::cell(w, m, path.end, arena::NEXT);
     Reached {
-        slots,
-        ranks,
-        ended: Ended::At(Slot(to)),
+        path,
+        ended: Some(Slot(to)),
     }
 }

@@ -4,7 +4,7 @@
 mod index;
 mod index_mut;
 
-use arena::{Rank, Slot};
+use arena::{Path, Rank, Slot};
 pub use index::{at, length, reach, read};
 pub use index_mut::{by_rank, seek};
 
@@ -15,17 +15,9 @@ pub struct Spot {
     pub rank: Rank,
 }
 
-// Where a walk ends: at a slot, or past the last node.
-#[derive(Clone, Copy)]
-pub enum Ended {
-    At(Slot),
-    None,
-}
-
-// The precursors of a target rank, and where the walk ends.
+// The precursors of a target rank, and the slot where the walk ends: none, where that is past the last node.
 #[derive(Clone, Copy)]
 pub struct Reached {
-    pub slots: [Slot; 16],
-    pub ranks: [Rank; 16],
-    pub ended: Ended,
+    pub path: Path,
+    pub ended: Option<Slot>,
 }

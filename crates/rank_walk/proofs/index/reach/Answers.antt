@@ -1,6 +1,5 @@
 -- `rank_walk::index::reach` meets its contract.
 -- The invariant: the walk stands no further than the target. The measure: stages and ranks left.
-use Prim.Native.Nat.{◌-◌}
 use mathlib.Core.Path.{◌∙◌}
 use Rattle.arena.proofs.Deciding.{yes}
 use Rattle.walk.proofs.Standing.{link_here}

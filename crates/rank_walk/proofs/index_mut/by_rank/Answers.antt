@@ -12,14 +12,14 @@ returns-then-target c =
 
 pub returns-then-n-target : goal.returns-then-n-target
 returns-then-n-target c =
-    ranked-past c.requires _ _ _ c.seek-p.ensures c.length-n.ensures c.if-n-target.true
+    ranked-past c.requires _ _ _ c.seek.ensures c.length-n.ensures c.if-n-target.true
 
 pub cell-to-requires : goal.cell-to-requires
 cell-to-requires c =
     let i = c.to_index in
-    let g = at-rank i.result.0 c.requires (omega (arith, i.ensures, c.if-n-target.false, c.length-n.ensures)) c.seek-p-2.ensures.end in
+    let g = at-rank i.result.0 c.requires (omega (arith, i.ensures, c.if-n-target.false, c.length-n.ensures)) c.seek-path.ensures.end in
     cell_here g next_column (omega arith)
 
 pub returns : goal.returns
 returns c =
-    ranked_there c.requires _ _ _ c.seek-p-2.ensures c.to_index.ensures (omega (arith, c.if-n-target.false, c.length-n.ensures)) _ c.cell-to.ensures
+    ranked_there c.requires _ _ _ c.seek-path.ensures c.to_index.ensures (omega (arith, c.if-n-target.false, c.length-n.ensures)) _ c.cell-to.ensures

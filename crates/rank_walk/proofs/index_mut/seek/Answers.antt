@@ -1,6 +1,5 @@
 -- `rank_walk::index_mut::seek` meets its contract.
 -- The invariant: the walk stands no further than the limit, and the precursors of the levels above are noted. The measure: stages and ranks left.
-use Prim.Native.Nat.{◌-◌}
 use mathlib.Core.Path.{◌∙◌}
 use native.Mathlib.Omega.{arith}
 use Rattle.arena.proofs.Deciding.{yes, no}
