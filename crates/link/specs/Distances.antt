@@ -1,7 +1,7 @@
 -- Link distances: what each call tells, and the number and distance of each case of the answer. Rests on nothing.
-use Rattle.std.specs.Prelude.{ℕ, ◌+◌, ◌-◌, cond, eqb}
-use Rattle.link.specs.declared.Distance.{Distance}
-use Rattle.link.specs.declared.Distance.TheVariants.{Is, Invalid, Overflow, Underflow}
+use Rattle.std.specs.Prelude.{ℕ, ◌+◌, ◌-◌, cond, eqb, Result, Ok, Err}
+use Rattle.link.specs.declared.LinkError.{LinkError}
+use Rattle.link.specs.declared.LinkError.TheVariants.{Invalid, Overflow, Underflow}
 
 -- Document 01's number, and the distance beside it: "the link calls the distance", and "a refusal returns zeros beside its number".
 pub record Told : Type 0 where
@@ -24,8 +24,8 @@ raised d = cond (eqb d 0) (refused 11) (cond (eqb d 4294967295) (refused 12) (is
 abbrev pub lowered : ℕ → Told
 lowered d = cond (eqb d 0) (refused 11) (cond (eqb d 1) (refused 13) (is (d - 1)))
 
-abbrev pub told : Distance → Told
-told (Is d) = is d
-told Invalid = refused 11
-told Overflow = refused 12
-told Underflow = refused 13
+abbrev pub told : Result ℕ LinkError → Told
+told (Ok d) = is d
+told (Err Invalid) = refused 11
+told (Err Overflow) = refused 12
+told (Err Underflow) = refused 13

@@ -8,44 +8,35 @@ mod spans;
 
 pub use spans::{farther, longer, made, nearer, shorter};
 
-// What a link call answers: the distance, or one of the crate's three errors.
-#[derive(Clone, Copy)]
-pub enum Distance {
-    Is(u32),
-    Invalid,
-    Overflow,
-    Underflow,
+// The crate's three errors, by document 01's numbers.
+#[derive(Clone, Copy, Debug, PartialEq, Eq)]
+pub enum LinkError {
+    Invalid = 11,
+    Overflow = 12,
+    Underflow = 13,
 }
 
-pub fn make(d: u32) -> Distance
+pub fn make(d: u32) -> Result<u32, LinkError>
     ensures { told result ≡ made d }
 {
     if d == 0 {
-        return Distance::Invalid;
+        Err(LinkError::Invalid)
+    } else {
+        Ok(d)
     }
-    Distance::Is(d)
 }
 
-pub fn raise(d: u32) -> Distance
+pub fn raise(d: u32) -> Result<u32, LinkError>
     ensures { told result ≡ raised d }
 {
-    if d == 0 {
-        return Distance::Invalid;
-    }
-    if d == 4294967295 {
-        return Distance::Overflow;
-    }
-    Distance::Is(d + 1)
+    make(d)?.checked_add(1).ok_or(LinkError::Overflow)
 }
 
-pub fn lower(d: u32) -> Distance
+pub fn lower(d: u32) -> Result<u32, LinkError>
     ensures { told result ≡ lowered d }
 {
-    if d == 0 {
-        return Distance::Invalid;
+    match make(d)? - 1 {
+        0 => Err(LinkError::Underflow),
+        less => Ok(less),
     }
-    if d == 1 {
-        return Distance::Underflow;
-    }
-    Distance::Is(d - 1)
 }

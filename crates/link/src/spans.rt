@@ -2,16 +2,11 @@
 ghost use Rattle.std.specs.Prelude.{◌≡◌, cond, ◌+◌, ◌-◌, ◌<◌, eqb};
 ghost use Rattle.model.specs.Links.{further};
 
-use crate::Distance;
-
 // A distance as module 1 makes it; what it refuses, 0, is an absent link's.
 pub fn made(d: u32) -> u32
     ensures { result ≡ d }
 {
-    let Distance::Is(x) = crate::make(d) else {
-        return 0;
-    };
-    x
+    crate::make(d).unwrap_or(0)
 }
 
 // A link that spans a node that comes; an absent one stays absent.
@@ -19,30 +14,21 @@ pub fn longer(far: u32) -> u32
     requires { far < 4294967295 }
     ensures { result ≡ further far }
 {
-    let Distance::Is(x) = crate::raise(far) else {
-        return 0;
-    };
-    x
+    crate::raise(far).unwrap_or(0)
 }
 
 // A link that spans a node that goes.
 pub fn shorter(far: u32) -> u32
     ensures { result ≡ far - 1 }
 {
-    let Distance::Is(x) = crate::lower(far) else {
-        return 0;
-    };
-    x
+    crate::lower(far).unwrap_or(0)
 }
 
 // The distance of a link whose owner is `by` ranks further on.
 pub fn nearer(far: u32, by: u32) -> u32
     ensures { result ≡ far - by }
 {
-    if far <= by {
-        return 0;
-    }
-    made(far - by)
+    made(far.saturating_sub(by))
 }
 
 // The distance of a link whose owner is `by` ranks further back.
@@ -50,8 +36,5 @@ pub fn farther(far: u32, by: u32) -> u32
     requires { far + by < 4294967296 }
     ensures { result ≡ cond (eqb far 0) 0 (far + by) }
 {
-    if far == 0 {
-        return 0;
-    }
-    made(far + by)
+    if far == 0 { 0 } else { made(far + by) }
 }
