@@ -1,3 +1,2 @@
-pub mod StepLaws
 pub mod Parsing
 pub mod Begun

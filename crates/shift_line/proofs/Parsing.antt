@@ -6,15 +6,17 @@ use mathlib.Core.List.{List, [], ◌∷◌}
 use lib.Dec.{leb, eqb}
 use borrow.Author.Tests.{le-leb, lt-leb, eqb-true}
 use native.Mathlib.Omega.{arith}
-use Rattle.digits.specs.declared.Number.TheVariants.{Is, None}
+use Rattle.std.specs.Prelude.{Option, Some, None}
 use Rattle.digits.specs.Digits.{is_digit, longer}
-use Rattle.digits.proofs.DigitLaws.{Longer, no, big, more, longer?}
-use Rattle.shift_line.specs.declared.Part.TheVariants.{Nothing, ListDigits, Space, KeyDigits, Spoilt}
-use Rattle.shift_line.specs.declared.Line.{Line}
-use Rattle.shift_line.specs.declared.Entry.{Entry}
-use Rattle.shift_line.specs.declared.Entry.TheVariants.{Reading, Unread}
+use Rattle.digits.proofs.DigitLaws.{no, big, more, longer?}
+use Rattle.shift_line.specs.declared.Line.TheVariants.{ListDigits, Space, KeyDigits}
+use Rattle.shift_line.specs.declared.Reading.{Reading}
 use Rattle.shift_line.specs.Lines.{all_digits, value_from, is_run, before, behind, parsed}
 use Rattle.shift_line.specs.Reads.{blank, spoilt, numbered, stepped, read, entry_of}
+
+-- a line that parses
+abbrev reading : ℕ → ℕ → Option Reading
+reading l n = Some (record { list = l; key = n })
 
 -- a number only grows with more digits
 value_grows : (n : ℕ) (bs : List ℕ) → n ≤ value_from n bs
@@ -22,10 +24,10 @@ value_grows n [] = omega arith
 value_grows n (b ∷ bs) = let h = value_grows (n * 10 + (b - 48)) bs in omega (arith, h)
 
 -- past the limit, whatever digits follow
-past_limit : (n : ℕ) (bs : List ℕ) (x : Entry) → 4294967295 < n → cond (all_digits bs) (cond (leb (value_from n bs) 4294967295) x Unread) Unread ≡ Unread
+past_limit : (n : ℕ) (bs : List ℕ) (x : Option Reading) → 4294967295 < n → cond (all_digits bs) (cond (leb (value_from n bs) 4294967295) x None) None ≡ None
 past_limit n bs x h = by (all_digits bs)
   where
-    by : (d : Bool) → cond d (cond (leb (value_from n bs) 4294967295) x Unread) Unread ≡ Unread
+    by : (d : Bool) → cond d (cond (leb (value_from n bs) 4294967295) x None) None ≡ None
     by true = let g = value_grows n bs in rw (lt-leb (value_from n bs) 4294967295 (omega (arith, g))) refl
     by false = refl
 
@@ -33,91 +35,82 @@ spoilt-stays : (b : ℕ) → stepped spoilt b ≡ spoilt
 unfolding stepped
 spoilt-stays b = refl
 
-spoilt_unread : (bs : List ℕ) → entry_of (read spoilt bs) ≡ Unread
+spoilt_unread : (bs : List ℕ) → entry_of (read spoilt bs) ≡ None
 unfolding entry_of
 spoilt_unread [] = refl
 spoilt_unread (b ∷ bs) = ap (λ line. entry_of (read line bs)) (spoilt-stays b) ∙ spoilt_unread bs
 
 -- ---- the key's digits ----
-abbrev in_key : ℕ → ℕ → Line
-in_key l n = record { part = KeyDigits; list = l; number = n }
+abbrev read_key : ℕ → ℕ → List ℕ → Option Reading
+read_key l n bs = cond (all_digits bs) (cond (leb (value_from n bs) 4294967295) (reading l (value_from n bs)) None) None
 
-abbrev read_key : ℕ → ℕ → List ℕ → Entry
-read_key l n bs = cond (all_digits bs) (cond (leb (value_from n bs) 4294967295) (Reading l (value_from n bs)) Unread) Unread
-
-key_step : (l n b : ℕ) → stepped (in_key l n) b ≡ numbered KeyDigits l (longer n b)
+key_step : (l n b : ℕ) → stepped (KeyDigits l n) b ≡ numbered (KeyDigits l) (longer n b)
 unfolding stepped
 key_step l n b = refl
 
-key_ends : (l n : ℕ) → entry_of (in_key l n) ≡ Reading l n
+key_ends : (l n : ℕ) → entry_of (KeyDigits l n) ≡ reading l n
 unfolding entry_of
 key_ends l n = refl
 
-key_reads : (l n : ℕ) (bs : List ℕ) → n ≤ 4294967295 → entry_of (read (in_key l n) bs) ≡ read_key l n bs
+key_reads : (l n : ℕ) (bs : List ℕ) → n ≤ 4294967295 → entry_of (read (KeyDigits l n) bs) ≡ read_key l n bs
 key_reads l n [] h = rw (le-leb n 4294967295 h) (key_ends l n)
 key_reads l n (b ∷ bs) h = elim (longer? n b) [
   | no d e ↦ rw (key_step l n b, e, d) (spoilt_unread bs)
-  | big d g e ↦ rw (key_step l n b, e, d) (spoilt_unread bs ∙ sym (past_limit (n * 10 + (b - 48)) bs (Reading l (value_from (n * 10 + (b - 48)) bs)) g))
+  | big d g e ↦ rw (key_step l n b, e, d) (spoilt_unread bs ∙ sym (past_limit (n * 10 + (b - 48)) bs (reading l (value_from (n * 10 + (b - 48)) bs)) g))
   | more d g e ↦ rw (key_step l n b, e, d) (key_reads l (n * 10 + (b - 48)) bs g)
 ]
 
 -- ---- the space ----
-abbrev in_space : ℕ → Line
-in_space l = record { part = Space; list = l; number = 0 }
-
 -- the first digit of a key is as a further one behind 0
-space_step : (l b : ℕ) → stepped (in_space l) b ≡ stepped (in_key l 0) b
+space_step : (l b : ℕ) → stepped (Space l) b ≡ stepped (KeyDigits l 0) b
 unfolding stepped
 space_step l b = refl
 
-space_ends : (l : ℕ) → entry_of (in_space l) ≡ Unread
+space_ends : (l : ℕ) → entry_of (Space l) ≡ None
 unfolding entry_of
 space_ends l = refl
 
-run-cond : (d : Bool) (m : Bool) (x : Entry) → cond d (cond m x Unread) Unread ≡ cond (cond d m false) x Unread
+run-cond : (d : Bool) (m : Bool) (x : Option Reading) → cond d (cond m x None) None ≡ cond (cond d m false) x None
 run-cond true m x = refl
 run-cond false m x = refl
 
-space_reads : (l : ℕ) (bs : List ℕ) → entry_of (read (in_space l) bs) ≡ cond (is_run bs) (Reading l (value_from 0 bs)) Unread
+space_reads : (l : ℕ) (bs : List ℕ) → entry_of (read (Space l) bs) ≡ cond (is_run bs) (reading l (value_from 0 bs)) None
 space_reads l [] = space_ends l
 space_reads l (b ∷ bs) =
     ap (λ line. entry_of (read line bs)) (space_step l b)
     ∙ key_reads l 0 (b ∷ bs) (omega arith)
-    ∙ run-cond (all_digits (b ∷ bs)) (leb (value_from 0 (b ∷ bs)) 4294967295) (Reading l (value_from 0 (b ∷ bs)))
+    ∙ run-cond (all_digits (b ∷ bs)) (leb (value_from 0 (b ∷ bs)) 4294967295) (reading l (value_from 0 (b ∷ bs)))
 
 -- ---- the list's digits ----
-abbrev in_list : ℕ → Line
-in_list n = record { part = ListDigits; list = 0; number = n }
-
-abbrev read_list : ℕ → List ℕ → Entry
+abbrev read_list : ℕ → List ℕ → Option Reading
 read_list n bs =
     cond (all_digits (before bs))
     (cond (leb (value_from n (before bs)) 4294967295)
-    (cond (is_run (behind bs)) (Reading (value_from n (before bs)) (value_from 0 (behind bs))) Unread)
-    Unread)
-    Unread
+    (cond (is_run (behind bs)) (reading (value_from n (before bs)) (value_from 0 (behind bs))) None)
+    None)
+    None
 
-list_space : (n b : ℕ) → eqb b 32 ≡ true → stepped (in_list n) b ≡ in_space n
+list_space : (n b : ℕ) → eqb b 32 ≡ true → stepped (ListDigits n) b ≡ Space n
 unfolding stepped
 list_space n b e = rw e refl
 
-list_step : (n b : ℕ) → eqb b 32 ≡ false → stepped (in_list n) b ≡ numbered ListDigits 0 (longer n b)
+list_step : (n b : ℕ) → eqb b 32 ≡ false → stepped (ListDigits n) b ≡ numbered ListDigits (longer n b)
 unfolding stepped
 list_step n b e = rw e refl
 
-list-ends : (n : ℕ) → entry_of (in_list n) ≡ Unread
+list-ends : (n : ℕ) → entry_of (ListDigits n) ≡ None
 unfolding entry_of
 list-ends n = refl
 
-list_reads : (n : ℕ) (bs : List ℕ) → n ≤ 4294967295 → entry_of (read (in_list n) bs) ≡ read_list n bs
+list_reads : (n : ℕ) (bs : List ℕ) → n ≤ 4294967295 → entry_of (read (ListDigits n) bs) ≡ read_list n bs
 list_reads n [] h = rw (le-leb n 4294967295 h) (list-ends n)
 list_reads n (b ∷ bs) h = by (λ m k. list_reads m bs k) (eqb b 32) refl
   where
     by :
-        ((m : ℕ) → m ≤ 4294967295 → entry_of (read (in_list m) bs) ≡ read_list m bs)
+        ((m : ℕ) → m ≤ 4294967295 → entry_of (read (ListDigits m) bs) ≡ read_list m bs)
         → (s : Bool)
         → eqb b 32 ≡ s
-        → entry_of (read (stepped (in_list n) b) bs) ≡ read_list n (b ∷ bs)
+        → entry_of (read (stepped (ListDigits n) b) bs) ≡ read_list n (b ∷ bs)
     by rest true e = rw (e, list_space n b e, le-leb n 4294967295 h) (space_reads n bs)
     by rest false e = elim (longer? n b) [
       | no d f ↦ rw (e, list_step n b e, f, d) (spoilt_unread bs)
@@ -130,11 +123,11 @@ no_space : (b : ℕ) → eqb b 32 ≡ true → longer 0 b ≡ None
 unfolding longer is_digit
 no_space b e = rw (eqb-true b 32 e) refl
 
-blank_step : (b : ℕ) → stepped blank b ≡ numbered ListDigits 0 (longer 0 b)
+blank_step : (b : ℕ) → stepped blank b ≡ numbered ListDigits (longer 0 b)
 unfolding stepped
 blank_step b = refl
 
-blank-ends : entry_of blank ≡ Unread
+blank-ends : entry_of blank ≡ None
 unfolding entry_of
 blank-ends = refl
 

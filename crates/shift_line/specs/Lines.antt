@@ -1,9 +1,8 @@
 -- Request K1: the lines of a text, and what a line parses to. Bytes are told by their ASCII codes: a newline is 10, a space 32.
 -- Rests on digits' `is_digit`.
-use Rattle.std.specs.Prelude.{ℕ, ◌+◌, ◌-◌, ◌*◌, Bool, true, false, cond, List, [], ◌∷◌, leb, eqb}
+use Rattle.std.specs.Prelude.{ℕ, ◌+◌, ◌-◌, ◌*◌, Bool, true, false, cond, List, [], ◌∷◌, leb, eqb, Option, Some, None}
 use Rattle.digits.specs.Digits.{is_digit}
-use Rattle.shift_line.specs.declared.Entry.{Entry}
-use Rattle.shift_line.specs.declared.Entry.TheVariants.{Reading, Unread}
+use Rattle.shift_line.specs.declared.Reading.{Reading}
 
 -- "a text file of lines"; "the last newline may be missing": each newline ends a line, and so does the end of a text after anything else.
 abbrev pub begun : ℕ → List (List ℕ) → List (List ℕ)
@@ -38,6 +37,8 @@ behind [] = []
 behind (b ∷ bs) = cond (eqb b 32) bs (behind bs)
 
 -- "A line parses as two runs of digits, each at most 4294967295, one space between, nothing else".
-abbrev pub parsed : List ℕ → Entry
+abbrev pub parsed : List ℕ → Option Reading
 parsed line =
-    cond (is_run (before line)) (cond (is_run (behind line)) (Reading (value_from 0 (before line)) (value_from 0 (behind line))) Unread) Unread
+    cond (is_run (before line))
+    (cond (is_run (behind line)) (Some (record { list = value_from 0 (before line); key = value_from 0 (behind line) })) None)
+    None

@@ -2,104 +2,61 @@
 #![tactic(auto)]
 
 ghost use Rattle.std.specs.Prelude.{◌≡◌};
-ghost use Rattle.shift_line.specs.Reads.{blank, spoilt, digited, stepped, entry_of};
-
-use digits::Number;
+ghost use Rattle.shift_line.specs.Reads.{blank, stepped, entry_of};
 
 const SPACE: u8 = b' ';
 
-// What was read last of a line: nothing yet, the list's digits, the space, the key's digits; or a byte that no such line has.
-#[derive(Clone, Copy)]
-pub enum Part {
+// What was read of a line: nothing yet, digits of the list, the space behind them, digits of the key; or a byte that no such line has.
+#[derive(Clone, Copy, PartialEq, Eq)]
+pub enum Line {
     Nothing,
-    ListDigits,
-    Space,
-    KeyDigits,
+    ListDigits(u32),
+    Space { list: u32 },
+    KeyDigits { list: u32, key: u32 },
     Spoilt,
 }
 
-#[derive(Clone, Copy)]
-pub struct Line {
-    pub part: Part,
-    // The list, once the space is read.
+// What a line that parses says.
+#[derive(Clone, Copy, PartialEq, Eq)]
+pub struct Reading {
     pub list: u32,
-    // The number that is being read.
-    pub number: u32,
-}
-
-// What a whole line says: a list and a key, or nothing that parses.
-#[derive(Clone, Copy)]
-pub enum Entry {
-    Reading(u32, u32),
-    Unread,
+    pub key: u32,
 }
 
 impl Line {
     pub fn new() -> Line
         ensures { result ≡ blank }
     {
-        Line {
-            part: Part::Nothing,
-            list: 0,
-            number: 0,
-        }
-    }
-
-    fn spoilt() -> Line
-        ensures { result ≡ spoilt }
-    {
-        Line {
-            part: Part::Spoilt,
-            list: 0,
-            number: 0,
-        }
-    }
-}
-
-// One digit more of the number that is being read.
-fn digit(line: Line, b: u8, part: Part) -> Line
-    ensures { result ≡ digited part line b }
-{
-    match digits::longer(line.number, b) {
-        Number::Is(n) => Line {
-            part,
-            list: line.list,
-            number: n,
-        },
-        Number::None => Line::spoilt(),
+        Line::Nothing
     }
 }
 
 // The line with one byte more.
+#[tactic(auto, unfolding(crate::specs::Reads::stepped))]
 pub fn step(line: Line, b: u8) -> Line
     ensures { result ≡ stepped line b }
 {
-    let part = line.part;
-    match part {
-        Part::Nothing => digit(line, b, Part::ListDigits),
-        Part::ListDigits => {
-            if b == SPACE {
-                return Line {
-                    part: Part::Space,
-                    list: line.number,
-                    number: 0,
-                };
-            }
-            digit(line, b, Part::ListDigits)
+    match line {
+        Line::Nothing => digits::longer(0, b).map_or(Line::Spoilt, Line::ListDigits),
+        Line::ListDigits(list) if b == SPACE => Line::Space { list },
+        Line::ListDigits(list) => digits::longer(list, b).map_or(Line::Spoilt, Line::ListDigits),
+        Line::Space { list } => {
+            digits::longer(0, b).map_or(Line::Spoilt, |key| Line::KeyDigits { list, key })
         }
-        Part::Space => digit(line, b, Part::KeyDigits),
-        Part::KeyDigits => digit(line, b, Part::KeyDigits),
-        Part::Spoilt => Line::spoilt(),
+        Line::KeyDigits { list, key } => {
+            digits::longer(key, b).map_or(Line::Spoilt, |key| Line::KeyDigits { list, key })
+        }
+        Line::Spoilt => Line::Spoilt,
     }
 }
 
-// What the line says, if it ends here.
-pub fn parse(line: Line) -> Entry
+// What the line says, if it ends here; none if it does not parse.
+#[tactic(auto, unfolding(crate::specs::Reads::entry_of))]
+pub fn parse(line: Line) -> Option<Reading>
     ensures { result ≡ entry_of line }
 {
-    let part = line.part;
-    match part {
-        Part::KeyDigits => Entry::Reading(line.list, line.number),
-        _ => Entry::Unread,
+    match line {
+        Line::KeyDigits { list, key } => Some(Reading { list, key }),
+        _ => None,
     }
 }
