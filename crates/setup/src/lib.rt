@@ -11,11 +11,9 @@ ghost use Rattle.setup.specs.NewRecords.{front_words, bare_record, Written, Firs
 
 use arena::{Link, Slot};
 
-#[derive(Clone, Copy)]
-pub enum Setup {
-    Done,
-    Wrong,
-}
+// The refusal: L, M, C or the slice's length is wrong.
+#[derive(Clone, Copy, Debug, PartialEq, Eq)]
+pub struct WrongSizes;
 
 // The words of a record before its links.
 #[derive(Clone, Copy)]
@@ -42,10 +40,8 @@ fn write_record(w: &mut [u32], m: usize, s: Slot, f: Front)
     ensures { Written m w.old s.0 (bare_record m f) 0 (width m) w.new }
 {
     write_front(w, m, s, f);
-    let mut l: usize = 0;
-    while l < m {
+    for l in 0..m {
         arena::put_link(w, m, s, l, Link::ABSENT);
-        l += 1;
     }
 }
 
@@ -62,18 +58,10 @@ fn front_of(s: u32, l: u32, m: u32, n: u32) -> Front
             last: Slot::NONE.0,
         };
     }
-    if s + 1 == n {
-        return Front {
-            count: 0,
-            height: Slot::NONE.0,
-            next: Slot::NONE.0,
-            last: 0,
-        };
-    }
     Front {
         count: 0,
         height: Slot::NONE.0,
-        next: s + 1,
+        next: if s + 1 == n { Slot::NONE.0 } else { s + 1 },
         last: 0,
     }
 }
@@ -84,10 +72,8 @@ fn write_records(w: &mut [u32], l: u32, m: u32, n: u32)
     ensures { FirstNew l m n w.old n w.new }
 {
     let levels = arena::wide(m);
-    let mut s: u32 = 0;
-    while s < n {
+    for s in 0..n {
         write_record(w, levels, Slot(s), front_of(s, l, m, n));
-        s += 1;
     }
 }
 
@@ -106,13 +92,13 @@ fn write_header(w: &mut [u32], l: u32, m: u32, c: u32)
     w[arena::ZERO_WORD] = 0;
 }
 
-pub fn set_up(w: &mut [u32], l: u32, m: u32, c: u32) -> Setup
+pub fn set_up(w: &mut [u32], l: u32, m: u32, c: u32) -> Result<(), WrongSizes>
     ensures { SetUpPromise l m c w.old w.new (number_of result) }
 {
-    if arena::fits(l, m, c, w.len()) {
-        write_records(w, l, m, l + c);
-        write_header(w, l, m, c);
-        return Setup::Done;
+    if !arena::fits(l, m, c, w.len()) {
+        return Err(WrongSizes);
     }
-    Setup::Wrong
+    write_records(w, l, m, l + c);
+    write_header(w, l, m, c);
+    Ok(())
 }

@@ -9,5 +9,5 @@ returns-then-s-l c = search (rules, head_form)
 pub returns-then-s-n : goal.returns-then-s-n
 returns-then-s-n c = search (rules, last_form)
 
-pub returns : goal.returns
-returns c = search (rules, next_form, c.if-s-n.false)
+pub returns-else-s-n : goal.returns-else-s-n
+returns-else-s-n c = search (rules, next_form, c.if-s-n.false)

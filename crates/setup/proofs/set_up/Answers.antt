@@ -3,7 +3,7 @@ use Rattle.arena.proofs.Deciding.{yes}
 use Rattle.setup.proofs.Writing.{new_arena, set_up_accepted}
 use Rattle.setup.proofs.set_up.Goals as goal
 
-pub returns-then-fits : goal.returns-then-fits
-returns-then-fits c =
-    let r = (yes c.fits.ensures c.if-fits.true) in
+pub returns : goal.returns
+returns c =
+    let r = (yes c.fits.ensures c.if-not-fits.false) in
     set_up_accepted r (new_arena r c.write_records.ensures c.write_header.ensures)

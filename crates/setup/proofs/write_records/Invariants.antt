@@ -1,10 +1,6 @@
 -- `setup::write_records` meets its contract: a record a turn.
-use Prim.Native.Nat.{◌-◌, ◌≤◌}
 use Rattle.setup.specs.NewRecords.{FirstNew}
 use Rattle.setup.proofs.write_records.Given as goal
 
 abbrev pub invariant-loop-s : goal.invariant-loop-s
-invariant-loop-s l = FirstNew l.l l.m l.n l.initial.w l.s l.w × (l.s ≤ l.n)
-
-abbrev pub decreases-loop-s : goal.decreases-loop-s
-decreases-loop-s l = l.n - l.s
+invariant-loop-s l = FirstNew l.l l.m l.n l.initial.w l.s l.w
