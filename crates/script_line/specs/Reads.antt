@@ -1,9 +1,7 @@
 -- What the bytes of a line read as (docs/CALLS.md): "Words are separated by single spaces", "Numbers are decimal, 0 to 4294967295", "A line that
 -- begins with `#` is a comment." Each byte is told by its ASCII code. Rests on Lines
 -- and digits' Digits.
-use Rattle.std.specs.Prelude.{ℕ, ◌+◌, ◌*◌, ◌%◌, Bool, false, cond, ◌≡◌, List, ltb, leb, eqb, length, set}
-use Rattle.digits.specs.declared.Number.{Number}
-use Rattle.digits.specs.declared.Number.TheVariants.{Is, None}
+use Rattle.std.specs.Prelude.{ℕ, ◌+◌, ◌*◌, ◌%◌, Bool, false, cond, ◌≡◌, List, ltb, leb, eqb, length, set, Option, Some, None}
 use Rattle.digits.specs.Digits.{longer}
 use Rattle.script_line.specs.declared.Reading.{Reading}
 use Rattle.script_line.specs.declared.Reading.TheVariants.{Nothing, Name, Gap, Digits, Comment, Spoilt}
@@ -31,8 +29,8 @@ lettered line b =
     (turned Spoilt line)
 
 -- One digit more of a number.
-abbrev pub number_read : Line → Number → Line
-number_read line (Is n) = record { reading = Digits; name = line.name; number = n; count = line.count }
+abbrev pub number_read : Line → Option ℕ → Line
+number_read line (Some n) = record { reading = Digits; name = line.name; number = n; count = line.count }
 number_read line None = turned Spoilt line
 
 abbrev pub digited : Line → ℕ → Line

@@ -3,16 +3,13 @@
 
 ghost use Rattle.std.specs.Prelude.{◌≡◌, ◌≤◌, length, set};
 ghost use Rattle.script_line.specs.Lines.{Within};
-ghost use Rattle.script_line.specs.Reads.{is_letter, blank, lettered, digited, numbered, Stepped, Finished};
-ghost use Rattle.script_line.specs.Reads.{turned as turned_line};
-
-use digits::Number;
+ghost use Rattle.script_line.specs.Reads.{blank, lettered, digited, numbered, turned, Stepped, Finished};
 
 // What separates words.
 const SPACE: u8 = b' ';
 
 // What has been read of a line: nothing, a name, a space, digits, a comment, or what is no item.
-#[derive(Clone, Copy)]
+#[derive(Clone, Copy, Debug, PartialEq, Eq)]
 pub enum Reading {
     Nothing,
     Name,
@@ -44,41 +41,28 @@ impl Line {
     }
 }
 
-fn turned(line: Line, reading: Reading) -> Line
-    ensures { result ≡ turned_line reading line }
+fn spoilt(line: Line) -> Line
+    ensures { result ≡ turned Reading.Spoilt line }
 {
     Line {
-        reading,
-        name: line.name,
-        number: line.number,
-        count: line.count,
+        reading: Reading::Spoilt,
+        ..line
     }
 }
 
-fn is_letter(b: u8) -> bool
-    ensures { result ≡ is_letter b }
-{
-    if b < b'a' {
-        return false;
-    }
-    b <= b'z'
-}
-
-// A name goes on: twelve letters at most.
+// A name goes on: twelve letters at most, so below 32 to the 11th there is room.
+#[tactic(auto, unfolding(crate::specs::Reads::lettered, crate::specs::Reads::is_letter))]
 fn letter(line: Line, b: u8) -> Line
     ensures { result ≡ lettered line b }
 {
-    if !is_letter(b) {
-        return turned(line, Reading::Spoilt);
-    }
-    if line.name >= 36028797018963968 {
-        return turned(line, Reading::Spoilt);
+    if !b.is_ascii_lowercase() || line.name >= 1 << 55 {
+        return spoilt(line);
     }
     Line {
         reading: Reading::Name,
-        name: line.name * 32 + (b % 32) as u64,
+        name: line.name * 32 + u64::from(b % 32),
         number: 0,
-        count: line.count,
+        ..line
     }
 }
 
@@ -87,80 +71,65 @@ fn digit(line: Line, b: u8) -> Line
     ensures { result ≡ digited line b }
 {
     match digits::longer(line.number, b) {
-        Number::Is(n) => Line {
+        Some(number) => Line {
             reading: Reading::Digits,
-            name: line.name,
-            number: n,
-            count: line.count,
+            number,
+            ..line
         },
-        Number::None => turned(line, Reading::Spoilt),
+        None => spoilt(line),
     }
 }
 
 // A number is done.
+#[tactic(auto, unfolding(crate::specs::Reads::numbered))]
 fn number(line: Line, numbers: &mut [u32], then: Reading) -> Line
     ensures value { result ≡ numbered line (length numbers.old) then }
     ensures numbers_after { numbers.new ≡ set numbers.old line.count line.number }
 {
     let at = line.count;
-    if at < numbers.len() {
-        numbers[at] = line.number;
-        return Line {
-            reading: then,
-            name: line.name,
-            number: 0,
-            count: at + 1,
-        };
+    if at >= numbers.len() {
+        return spoilt(line);
     }
-    turned(line, Reading::Spoilt)
+    numbers[at] = line.number;
+    Line {
+        reading: then,
+        number: 0,
+        count: at + 1,
+        ..line
+    }
 }
 
 // The line with one byte more; b is no newline.
+#[tactic(auto, using(crate::proofs::CountLaws::lettered_count, crate::proofs::CountLaws::digited_count, crate::proofs::CountLaws::numbered_count), unfolding(crate::specs::Reads::stepped, crate::specs::Reads::kept))]
 pub fn step(line: Line, b: u8, numbers: &mut [u32]) -> Line
     requires { Within line numbers.old }
     ensures { Stepped line b numbers.old result numbers.new }
 {
-    let reading = line.reading;
-    match reading {
-        Reading::Nothing => {
-            if b == b'#' {
-                turned(line, Reading::Comment)
-            } else {
-                letter(line, b)
-            }
-        }
-        Reading::Name => {
-            if b == SPACE {
-                turned(line, Reading::Gap)
-            } else {
-                letter(line, b)
-            }
-        }
-        Reading::Gap => digit(line, b),
-        Reading::Digits => {
-            if b == SPACE {
-                number(line, numbers, Reading::Gap)
-            } else {
-                digit(line, b)
-            }
-        }
-        Reading::Comment => line,
-        Reading::Spoilt => line,
+    match line.reading {
+        Reading::Nothing if b == b'#' => Line {
+            reading: Reading::Comment,
+            ..line
+        },
+        Reading::Name if b == SPACE => Line {
+            reading: Reading::Gap,
+            ..line
+        },
+        Reading::Digits if b == SPACE => number(line, numbers, Reading::Gap),
+        Reading::Nothing | Reading::Name => letter(line, b),
+        Reading::Gap | Reading::Digits => digit(line, b),
+        Reading::Comment | Reading::Spoilt => line,
     }
 }
 
 // The line at its end: `Name` if it has the form of an item, a comment, or spoilt.
+#[tactic(auto, using(crate::proofs::CountLaws::numbered_count), unfolding(crate::specs::Reads::finished, crate::specs::Reads::kept))]
 pub fn finish(line: Line, numbers: &mut [u32]) -> Line
     requires { Within line numbers.old }
     ensures { Finished line numbers.old result numbers.new }
 {
-    let reading = line.reading;
-    match reading {
-        Reading::Nothing => turned(line, Reading::Spoilt),
-        Reading::Name => line,
-        Reading::Gap => turned(line, Reading::Spoilt),
+    match line.reading {
+        Reading::Nothing | Reading::Gap => spoilt(line),
         Reading::Digits => number(line, numbers, Reading::Name),
-        Reading::Comment => line,
-        Reading::Spoilt => line,
+        Reading::Name | Reading::Comment | Reading::Spoilt => line,
     }
 }
