@@ -5,6 +5,10 @@ ghost use Rattle.std.specs.Prelude.{◌≡◌, ◌≤◌, length, set};
 ghost use Rattle.script_line.specs.Lines.{Within};
 ghost use Rattle.script_line.specs.Reads.{blank, lettered, digited, numbered, turned, Stepped, Finished};
 
+mod script;
+
+pub use script::{Runner, Script, StillOpen};
+
 // What separates words.
 const SPACE: u8 = b' ';
 
