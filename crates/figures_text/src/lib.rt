@@ -3,74 +3,70 @@
 
 ghost use Rattle.std.specs.Prelude.{[], ◌∷◌, ◌+◌, ◌*◌, ◌≤◌, length};
 ghost use Rattle.figures_text.specs.Texts.{decimal_of, spaced, shown, line_of, last_of, Put};
+ghost use Rattle.figures_text.specs.Pages.{Puts};
 
 use figures::Figures;
 
-fn byte(out: &mut [u8], at: usize, b: u8) -> usize
-    requires { at + 1 ≤ length out.old }
-    ensures { Put at (b ∷ []) out.old out.new result }
-{
-    out[at] = b;
-    at + 1
+// A lent slice, and the place where the next bytes are put.
+#[derive(Drop)]
+struct Page<'a> {
+    out: &'a mut [u8],
+    at: usize,
 }
 
-fn bytes(out: &mut [u8], at: usize, more: &[u8]) -> usize
-    requires { at + length more.now ≤ length out.old }
-    ensures { Put at more.now out.old out.new result }
-{
-    let mut i: usize = 0;
-    while i < more.len() {
-        out[at + i] = more[i];
-        i += 1;
+impl Page<'_> {
+    fn bytes(&mut self, more: &[u8])
+        requires { self.old.at + length more.now ≤ length self.old.out.now }
+        ensures { Puts more.now self.old self.new }
+    {
+        let end = self.at + more.len();
+        self.out[self.at..end].copy_from_slice(more);
+        self.at = end;
     }
-    at + i
-}
 
-fn decimal(out: &mut [u8], at: usize, n: u64) -> usize
-    requires { at + length (decimal_of n) ≤ length out.old }
-    ensures { Put at (decimal_of n) out.old out.new result }
-{
-    let mut digits = [0u8; 20];
-    let k = io::decimal(n, &mut digits);
-    bytes(out, at, &digits[..k])
-}
-
-// A space and a key, or the sum of two, in at most 11 bytes.
-fn number(out: &mut [u8], at: usize, n: u64) -> usize
-    requires { (at + 11 ≤ length out.old) × (n ≤ 2 * 4294967295) }
-    ensures put { Put at (spaced (n ∷ [])) out.old out.new result }
-    ensures upper_bound { result ≤ at + 11 }
-{
-    let behind = byte(out, at, b' ');
-    decimal(out, behind, n)
-}
-
-fn numbers(out: &mut [u8], at: usize, ns: &[u32]) -> usize
-    requires { at + 11 * length ns.now ≤ length out.old }
-    ensures put { Put at (spaced ns.now) out.old out.new result }
-    ensures upper_bound { result ≤ at + 11 * length ns.now }
-{
-    let mut end = at;
-    let mut i: usize = 0;
-    while i < ns.len() {
-        end = number(out, end, ns[i] as u64);
-        i += 1;
+    fn decimal(&mut self, n: u64)
+        requires { self.old.at + length (decimal_of n) ≤ length self.old.out.now }
+        ensures { Puts (decimal_of n) self.old self.new }
+    {
+        let mut digits = [0u8; 20];
+        let k = io::decimal(n, &mut digits);
+        self.bytes(&digits[..k]);
     }
-    end
-}
 
-// The figures of a list, or a 0 if it has no readings.
-fn show(out: &mut [u8], at: usize, f: Figures) -> usize
-    requires { (at + 66 ≤ length out.old) × (f.middle ≤ 2 * 4294967295) }
-    ensures put { Put at (spaced (shown f)) out.old out.new result }
-    ensures upper_bound { result ≤ at + 66 }
-{
-    if f.count == 0 {
-        return number(out, at, 0);
+    // A space and a key, or the sum of two, in at most 11 bytes.
+    fn number(&mut self, n: u64)
+        requires { (self.old.at + 11 ≤ length self.old.out.now) × (n ≤ 2 * 4294967295) }
+        ensures put { Puts (spaced (n ∷ [])) self.old self.new }
+        ensures upper_bound { self.new.at ≤ self.old.at + 11 }
+    {
+        self.bytes(b" ");
+        self.decimal(n);
     }
-    let first = numbers(out, at, &[f.count, f.smallest, f.largest, f.lower]);
-    let middle = number(out, first, f.middle);
-    number(out, middle, f.upper as u64)
+
+    fn numbers(&mut self, ns: &[u32])
+        requires { self.old.at + 11 * length ns.now ≤ length self.old.out.now }
+        ensures put { Puts (spaced ns.now) self.old self.new }
+        ensures upper_bound { self.new.at ≤ self.old.at + 11 * length ns.now }
+    {
+        for n in ns {
+            self.number(u64::from(*n));
+        }
+    }
+
+    // The figures of a list, or a 0 if it has no readings.
+    fn show(&mut self, f: Figures)
+        requires { (self.old.at + 66 ≤ length self.old.out.now) × (f.middle ≤ 2 * 4294967295) }
+        ensures put { Puts (spaced (shown f)) self.old self.new }
+        ensures upper_bound { self.new.at ≤ self.old.at + 66 }
+    {
+        if f.count == 0 {
+            self.number(0);
+            return;
+        }
+        self.numbers(&[f.count, f.smallest, f.largest, f.lower]);
+        self.number(f.middle);
+        self.number(u64::from(f.upper));
+    }
 }
 
 // The line of a list, in at most 77 bytes: 10 for its number, 66 for its figures, and the newline.
@@ -79,9 +75,11 @@ pub fn line(out: &mut [u8], at: usize, list: u32, f: Figures) -> usize
     ensures put { Put at (line_of list f) out.old out.new result }
     ensures upper_bound { result ≤ at + 77 }
 {
-    let named = decimal(out, at, list as u64);
-    let told = show(out, named, f);
-    byte(out, told, b'\n')
+    let mut row = Page { out, at };
+    row.decimal(u64::from(list));
+    row.show(f);
+    row.bytes(b"\n");
+    row.at
 }
 
 // The last line, in at most 29 bytes.
@@ -89,7 +87,9 @@ pub fn last(out: &mut [u8], at: usize, skipped: u64) -> usize
     requires { at + 29 ≤ length out.old }
     ensures { Put at (last_of skipped) out.old out.new result }
 {
-    let named = bytes(out, at, b"skipped ");
-    let counted = decimal(out, named, skipped);
-    byte(out, counted, b'\n')
+    let mut page = Page { out, at };
+    page.bytes(b"skipped ");
+    page.decimal(skipped);
+    page.bytes(b"\n");
+    page.at
 }

@@ -1,7 +1,7 @@
--- `figures_text::decimal` meets its contract: what `io::decimal` spells is copied.
+-- `Page::decimal` meets its contract: what `io::decimal` spells is copied.
 use borrow.Author.Rules.{rules}
 use Rattle.figures_text.proofs.Decimals.{spelt}
-use Rattle.figures_text.proofs.decimal.Goals as goal
+use Rattle.figures_text.proofs.Page.decimal.Goals as goal
 
 pub bytes-requires : goal.bytes-requires
 bytes-requires c =
