@@ -29,17 +29,11 @@ pub fn key_at(w: &[u32], m: usize, s: Slot) -> Key
 pub fn below(a: Key, b: Key) -> bool
     ensures { Decides result (a < b) }
 {
-    if b <= a {
-        return false;
-    }
-    true
+    a < b
 }
 
 pub fn same(a: Key, b: Key) -> bool
     ensures { Decides result (a ≡ b) }
 {
-    if a != b {
-        return false;
-    }
-    true
+    a == b
 }

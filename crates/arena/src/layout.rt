@@ -5,7 +5,7 @@ ghost use Rattle.model.specs.Calls.{Room};
 ghost use Rattle.model.specs.Cells.{base_of};
 ghost use Rattle.arena.specs.Decides.{Decides};
 
-use crate::{Slot, wide};
+use crate::Slot;
 
 // The header's words (model's `lists_word` and so on), and how many there are.
 pub const MARK_WORD: usize = 0;
@@ -60,7 +60,7 @@ pub fn base_of(m: usize, s: Slot) -> usize
     requires { m ≤ 16 }
     ensures { result ≡ base_of m s.0 }
 {
-    HEADER + wide(s.0) * width(m)
+    HEADER + s.0 as usize * width(m)
 }
 
 // The length of an arena of l lists, m levels and c nodes.
@@ -68,33 +68,12 @@ pub fn size(l: u32, m: u32, c: u32) -> usize
     requires { (l ≤ 16) × (m ≤ 16) × (c ≤ 65535) }
     ensures { result ≡ header_words + (l + c) * width m }
 {
-    HEADER + wide(l + c) * width(wide(m))
+    HEADER + (l + c) as usize * width(m as usize)
 }
 
 // Whether L, M, C and the slice's length are right; the ranges come before any product.
 pub fn fits(l: u32, m: u32, c: u32, n: usize) -> bool
     ensures { Decides result (Room l m c n) }
 {
-    if l < 1 {
-        return false;
-    }
-    if l > 16 {
-        return false;
-    }
-    if m < 1 {
-        return false;
-    }
-    if m > 16 {
-        return false;
-    }
-    if c < 1 {
-        return false;
-    }
-    if c > 65535 {
-        return false;
-    }
-    if n != size(l, m, c) {
-        return false;
-    }
-    true
+    (1..=16).contains(&l) && (1..=16).contains(&m) && (1..=65535).contains(&c) && n == size(l, m, c)
 }

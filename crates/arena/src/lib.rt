@@ -18,15 +18,15 @@ pub use links::{Link, distance_in, link_at, put_link, target_in};
 pub use words::{cell, header, last_slot, put, put_header, put2, word};
 
 // The number of a record; lists are named by their heads' slots, 0 to L - 1.
-#[derive(Clone, Copy)]
+#[derive(Clone, Copy, PartialEq, Eq)]
 pub struct Slot(pub u32);
 
 // A place in a list, counted from the head, which has rank 0.
-#[derive(Clone, Copy)]
+#[derive(Clone, Copy, PartialEq, Eq, PartialOrd, Ord)]
 pub struct Rank(pub u32);
 
 // A place in a list, counted from the first node, which has index 0.
-#[derive(Clone, Copy)]
+#[derive(Clone, Copy, PartialEq, Eq, PartialOrd, Ord)]
 pub struct Index(pub u32);
 
 // What a walk to an index notes (the crate's `Path`): of each level the precursor's slot and rank, and the slot just before the index.

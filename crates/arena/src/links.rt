@@ -11,7 +11,7 @@ use crate::layout::{FAR, LINK, TO, base_of};
 use crate::words::put;
 
 // "A link is target slot and distance; an absent one is N, 0."
-#[derive(Clone, Copy)]
+#[derive(Clone, Copy, PartialEq, Eq)]
 pub struct Link {
     pub target: Slot,
     pub distance: u32,
@@ -26,13 +26,7 @@ impl Link {
     pub fn is_absent(self) -> bool
         ensures { Decides result (words_of self ≡ absent_link) }
     {
-        if self.target.0 != Slot::NONE.0 {
-            return false;
-        }
-        if self.distance != 0 {
-            return false;
-        }
-        true
+        self == Link::ABSENT
     }
 }
 

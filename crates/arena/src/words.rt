@@ -26,8 +26,7 @@ pub fn put(w: &mut [u32], m: usize, s: Slot, c: usize, v: u32)
     requires { Cell w.old m s.0 c }
     ensures { w.new ≡ put_at m w.old s.0 c v }
 {
-    let at = base_of(m, s) + c;
-    w[at] = v;
+    w[base_of(m, s) + c] = v;
 }
 
 // Two words of one column.
@@ -43,10 +42,7 @@ pub fn put2(w: &mut [u32], m: usize, c: usize, x: Slot, v: u32, y: Slot, u: u32)
 pub fn last_slot(n: u32, slot: Slot) -> Slot
     ensures { result.0 ≡ cond (eqb n 0) N slot.0 }
 {
-    if n == 0 {
-        return Slot::NONE;
-    }
-    slot
+    if n == 0 { Slot::NONE } else { slot }
 }
 
 // Word i of the header.
