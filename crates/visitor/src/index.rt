@@ -3,6 +3,7 @@ ghost use Rattle.std.specs.Prelude.{◌≡◌};
 ghost use Rattle.walk.specs.Standing.{Standing};
 ghost use Rattle.visitor.specs.Visited.{rank_head, RankStands, rank_at, rank_visit};
 
+use crate::Traverse;
 use arena::{Index, Rank, Slot};
 use rank_walk::Spot;
 
@@ -48,11 +49,14 @@ impl IndexVisitor {
         v.found = found;
         v
     }
+}
 
-    pub fn traversed(self, w: &[u32], m: usize) -> IndexVisitor
-        requires { RankStands w.now m self }
-        ensures { result ≡ rank_visit w.now self }
-    {
+impl Traverse for IndexVisitor {
+    ghost stands = { RankStands };
+
+    ghost visit = { rank_visit };
+
+    fn traversed(self, w: &[u32], m: usize) -> IndexVisitor {
         let target = self.target;
         let n = rank_walk::length(w, m, self.list);
         let last = Rank::before(Index(n));
@@ -63,35 +67,5 @@ impl IndexVisitor {
             return self.ended(w, m, last, false);
         }
         self.ended(w, m, target, true)
-    }
-
-    pub fn traverse(&mut self, w: &[u32], m: usize)
-        requires { RankStands w.now m self.old }
-        ensures { self.new ≡ rank_visit w.now self.old }
-    {
-        let before = *self;
-        let after = before.traversed(w, m);
-        *self = after;
-    }
-
-    // A caller of `traverse`, for callers that keep the visitor by value: it lends its own.
-    pub fn lent(self, w: &[u32], m: usize) -> IndexVisitor
-        requires { RankStands w.now m self }
-        ensures { result ≡ rank_visit w.now self }
-    {
-        let mut v = self;
-        v.traverse(w, m);
-        v
-    }
-
-    // A caller that lends its visitor twice: the second walk goes on from where the first ended.
-    pub fn again(self, w: &[u32], m: usize) -> IndexVisitor
-        requires { RankStands w.now m self }
-        ensures { result ≡ rank_visit w.now (rank_visit w.now self) }
-    {
-        let mut v = self;
-        v.traverse(w, m);
-        v.traverse(w, m);
-        v
     }
 }

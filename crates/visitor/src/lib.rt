@@ -5,6 +5,8 @@
 
 mod index;
 mod ord_index;
+mod traverse;
 
 pub use index::IndexVisitor;
 pub use ord_index::OrdIndexVisitor;
+pub use traverse::Traverse;

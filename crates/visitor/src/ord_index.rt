@@ -2,6 +2,7 @@
 ghost use Rattle.std.specs.Prelude.{◌≡◌};
 ghost use Rattle.visitor.specs.Visited.{key_head, KeyStands, key_at, key_over, key_visit};
 
+use crate::Traverse;
 use arena::{Key, Rank, Slot};
 use key_walk::{Visitor, Walked};
 
@@ -62,49 +63,22 @@ impl OrdIndexVisitor {
         v.over = true;
         v
     }
+}
 
-    pub fn traversed(self, w: &[u32], m: usize) -> OrdIndexVisitor
-        requires { KeyStands w.now m self }
-        ensures { result ≡ key_visit w.now self }
-    {
+impl Traverse for OrdIndexVisitor {
+    ghost stands = { KeyStands };
+
+    ghost visit = { key_visit };
+
+    fn traversed(self, w: &[u32], m: usize) -> OrdIndexVisitor {
         if self.found {
             return self;
         }
         let from = Visitor::at(m, self.current, self.rank, self.left);
         match key_walk::walk(w, m, self.list, self.target, from, self.level) {
-            Walked::Found(v) => self.ended(v, true),
-            Walked::Missing(v) => self.ended(v, false),
-            Walked::Over => self.out(),
+            Some(Walked::Found(v)) => self.ended(v, true),
+            Some(Walked::Missing(v)) => self.ended(v, false),
+            None => self.out(),
         }
-    }
-
-    pub fn traverse(&mut self, w: &[u32], m: usize)
-        requires { KeyStands w.now m self.old }
-        ensures { self.new ≡ key_visit w.now self.old }
-    {
-        let before = *self;
-        let after = before.traversed(w, m);
-        *self = after;
-    }
-
-    // A caller of `traverse`, for callers that keep the visitor by value: it lends its own.
-    pub fn lent(self, w: &[u32], m: usize) -> OrdIndexVisitor
-        requires { KeyStands w.now m self }
-        ensures { result ≡ key_visit w.now self }
-    {
-        let mut v = self;
-        v.traverse(w, m);
-        v
-    }
-
-    // A caller that lends its visitor twice: the second walk goes on from where the first ended.
-    pub fn again(self, w: &[u32], m: usize) -> OrdIndexVisitor
-        requires { KeyStands w.now m self }
-        ensures { result ≡ key_visit w.now (key_visit w.now self) }
-    {
-        let mut v = self;
-        v.traverse(w, m);
-        v.traverse(w, m);
-        v
     }
 }
