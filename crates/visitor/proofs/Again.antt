@@ -52,9 +52,6 @@ module _ {w : List ℕ} {m : ℕ} (v : OrdIndexVisitor) (g : KeyStands w m v) wh
       by-found true f = subst (λ (u : OrdIndexVisitor). KeyStands w m u) (sym (found-stays w v f)) g
       by-found false f = subst (λ (u : OrdIndexVisitor). KeyStands w m u) (sym (visit_is w v f)) walked
 
-  pub key_stands_there : {x : OrdIndexVisitor} → x ≡ key_visit w v → KeyStands w m x
-  key_stands_there e = subst (λ (u : OrdIndexVisitor). KeyStands w m u) (sym e) key_stands_again
-
 -- the last stage ends where no smaller key follows
 go-stop : (t : ℕ) (ys : List Node) → go 0 t (drop (go 0 t ys) ys) ≡ 0
 go-stop t [] = refl
@@ -135,9 +132,6 @@ module _ {w : List ℕ} {m : ℕ} (v : IndexVisitor) (g : RankStands w m v) wher
 
   pub rank-stands_again : RankStands w m (rank_visit w v)
   rank-stands_again = let (q, b, r) = ranked in subst (λ (u : IndexVisitor). RankStands w m u) r.is (at-rank q (listed g) r.within refl)
-
-  pub rank_stands_there : {x : IndexVisitor} → x ≡ rank_visit w v → RankStands w m x
-  rank_stands_there e = subst (λ (u : IndexVisitor). RankStands w m u) (sym e) rank-stands_again
 
   pub rank-stays : rank_visit w (rank_visit w v) ≡ rank_visit w v
   rank-stays = let (q, b, r) = ranked in subst (λ (u : IndexVisitor). rank_visit w u ≡ u) r.is (sym r.stays)

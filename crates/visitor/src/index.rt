@@ -7,7 +7,8 @@ use crate::Traverse;
 use arena::{Index, Rank, Slot};
 use rank_walk::Spot;
 
-// `level` is the number of levels still to come: all of them at the head, none after a walk.
+// `level` is the number of levels still to come: all of them at the head, none after a walk. `found` stays a flag: the slot and the rank are
+// there without it too.
 #[derive(Clone, Copy)]
 pub struct IndexVisitor {
     pub list: Slot,
@@ -38,16 +39,18 @@ impl IndexVisitor {
         requires { Standing w.now m self.list.0 rank.0 self.level self.current.0 self.rank.0 }
         ensures { result ≡ rank_at w.now self rank.0 found }
     {
-        let slot = self.current;
-        let here = self.rank;
-        let from = Spot { slot, rank: here };
+        let from = Spot {
+            slot: self.current,
+            rank: self.rank,
+        };
         let current = rank_walk::reach(w, m, self.list, from, self.level, rank);
-        let mut v = self;
-        v.level = 0;
-        v.current = current;
-        v.rank = rank;
-        v.found = found;
-        v
+        IndexVisitor {
+            level: 0,
+            current,
+            rank,
+            found,
+            ..self
+        }
     }
 }
 
@@ -57,15 +60,11 @@ impl Traverse for IndexVisitor {
     ghost visit = { rank_visit };
 
     fn traversed(self, w: &[u32], m: usize) -> IndexVisitor {
-        let target = self.target;
         let n = rank_walk::length(w, m, self.list);
-        let last = Rank::before(Index(n));
-        if n < target.0 {
-            return self.ended(w, m, last, false);
+        if self.rank.0 <= self.target.0 && self.target.0 <= n {
+            self.ended(w, m, self.target, true)
+        } else {
+            self.ended(w, m, Rank::before(Index(n)), false)
         }
-        if target.0 < self.rank.0 {
-            return self.ended(w, m, last, false);
-        }
-        self.ended(w, m, target, true)
     }
 }

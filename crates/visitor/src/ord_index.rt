@@ -7,7 +7,7 @@ use arena::{Key, Rank, Slot};
 use key_walk::{Visitor, Walked};
 
 // `level` is the number of levels still to come: all of them at the head, none after a walk. `left` is the number of comparisons left; `over`
-// says that the last walk asked for more.
+// says that the last walk asked for more. `found` and `over` stay two flags: `traversed` takes a visitor with both, which an enum would leave out.
 #[derive(Clone, Copy)]
 pub struct OrdIndexVisitor {
     pub list: Slot,
@@ -41,27 +41,27 @@ impl OrdIndexVisitor {
     fn ended(self, at: Visitor, found: bool) -> OrdIndexVisitor
         ensures { result ≡ key_at self at.slot at.rank at.left found }
     {
-        let slot = at.slot;
-        let rank = at.rank;
-        let mut v = self;
-        v.level = 0;
-        v.current = slot;
-        v.rank = rank;
-        v.left = at.left;
-        v.found = found;
-        v.over = false;
-        v
+        OrdIndexVisitor {
+            level: 0,
+            current: at.slot,
+            rank: at.rank,
+            left: at.left,
+            found,
+            over: false,
+            ..self
+        }
     }
 
     // Out of comparisons.
     fn out(self) -> OrdIndexVisitor
         ensures { result ≡ key_over self }
     {
-        let mut v = self;
-        v.left = 0;
-        v.found = false;
-        v.over = true;
-        v
+        OrdIndexVisitor {
+            left: 0,
+            found: false,
+            over: true,
+            ..self
+        }
     }
 }
 
