@@ -5,6 +5,7 @@ ghost use Rattle.std.specs.Prelude.{◌≡◌, ◌≤◌, ◌<◌, ◌↔◌, co
 ghost use Rattle.lent.specs.Fronts.{Relent};
 
 // Of N words the first `len` are lent.
+#[derive(Drop)]
 pub struct Lent<const N: usize> {
     pub words: [u32; N],
     pub len: usize,

@@ -22,6 +22,7 @@ pub struct StillOpen {
 }
 
 // The line that is being read, and its numbers: N at most.
+#[derive(Drop)]
 pub struct Script<const N: usize> {
     pub line: Line,
     pub numbers: [u32; N],
