@@ -11,10 +11,8 @@ pub fn free_node(w: &mut [u32], m: usize, s: Slot, next: Slot)
     ensures { NodeFreed m s.0 next.0 w.old w.new }
 {
     let height = wide(cell(w, m, s, HEIGHT));
-    let mut l = 0;
-    while l < height {
+    for l in 0..height {
         put_link(w, m, s, l, Link::ABSENT);
-        l += 1;
     }
     put(w, m, s, KEY, 0);
     put(w, m, s, HEIGHT, Slot::NONE.0);

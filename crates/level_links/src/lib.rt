@@ -1,60 +1,23 @@
 // The links that change where a node goes in or out: level by level, by a path of precursors.
 #![tactic(auto)]
 
-ghost use Rattle.std.specs.Prelude.{◌≡◌, ◌+◌, ◌<◌};
+ghost use Rattle.std.specs.Prelude.{◌≡◌, [], ◌∷◌};
 ghost use Rattle.model.specs.Arena.{first_free};
 ghost use Rattle.model.specs.Calls.{do_remove};
 ghost use Rattle.model.specs.Passes.{decode};
 ghost use Rattle.arena.specs.Linked.{words_of};
 ghost use Rattle.arena.specs.Owners.{Leads, NodeThere};
 ghost use Rattle.level_links.specs.AtIndex.{inserted_at, CanInsert, NodeIs};
-ghost use Rattle.level_links.specs.OneLevel.{nearer_link, farther_link, longer_link, shorter_link};
 ghost use Rattle.level_links.specs.OneLevel.{LevelFits, LevelInserted, LevelRemoved, LinksDone};
 
 use arena::{Index, Key, Link, Path, Rank, Slot, link_at, put_link, wide};
 use link::{farther, longer, made, nearer, shorter};
 
-// The link k, where its owner is `by` ranks further on, or further back; where it spans a node that comes, or that goes.
-pub fn nearer_link(k: Link, by: u32) -> Link
-    ensures { words_of result ≡ nearer_link by (words_of k) }
+// The link k at another distance.
+pub fn at_distance(k: Link, distance: u32) -> Link
+    ensures { words_of result ≡ k.target.0 ∷ distance ∷ [] }
 {
-    let target = k.target;
-    Link {
-        target,
-        distance: nearer(k.distance, by),
-    }
-}
-
-pub fn farther_link(k: Link, by: u32) -> Link
-    requires { k.distance + by < 4294967296 }
-    ensures { words_of result ≡ farther_link by (words_of k) }
-{
-    let target = k.target;
-    Link {
-        target,
-        distance: farther(k.distance, by),
-    }
-}
-
-fn longer_link(k: Link) -> Link
-    requires { k.distance < 4294967295 }
-    ensures { words_of result ≡ longer_link (words_of k) }
-{
-    let target = k.target;
-    Link {
-        target,
-        distance: longer(k.distance),
-    }
-}
-
-fn shorter_link(k: Link) -> Link
-    ensures { words_of result ≡ shorter_link (words_of k) }
-{
-    let target = k.target;
-    Link {
-        target,
-        distance: shorter(k.distance),
-    }
+    Link { distance, ..k }
 }
 
 // Level l, where a node of height h goes into slot o, with `back` nodes between the precursor s and it.
@@ -64,7 +27,7 @@ fn insert_level(w: &mut [u32], m: usize, l: usize, h: usize, s: Slot, o: Slot, b
 {
     let old = link_at(w, m, s, l);
     if h <= l {
-        put_link(w, m, s, l, longer_link(old));
+        put_link(w, m, s, l, at_distance(old, longer(old.distance)));
         return;
     }
     let first = Link {
@@ -72,7 +35,7 @@ fn insert_level(w: &mut [u32], m: usize, l: usize, h: usize, s: Slot, o: Slot, b
         distance: made(back + 1),
     };
     put_link(w, m, s, l, first);
-    put_link(w, m, o, l, nearer_link(old, back));
+    put_link(w, m, o, l, at_distance(old, nearer(old.distance, back)));
 }
 
 // Level l, where the node of height h in slot o goes out.
@@ -82,11 +45,11 @@ fn remove_level(w: &mut [u32], m: usize, l: usize, h: usize, s: Slot, o: Slot, b
 {
     if h <= l {
         let old = link_at(w, m, s, l);
-        put_link(w, m, s, l, shorter_link(old));
+        put_link(w, m, s, l, at_distance(old, shorter(old.distance)));
         return;
     }
-    let second = link_at(w, m, o, l);
-    put_link(w, m, s, l, farther_link(second, back));
+    let old = link_at(w, m, o, l);
+    put_link(w, m, s, l, at_distance(old, farther(old.distance, back)));
     put_link(w, m, o, l, Link::ABSENT);
 }
 
@@ -105,15 +68,11 @@ pub fn insert_links(
     requires o_value { o.0 ≡ first_free (decode w.old).free }
     ensures { LinksDone w.old (inserted_at (decode w.old) list.0 i.0 key height) m w.new }
 {
-    let slots = path.slots;
-    let ranks = path.ranks;
     let place = Rank::before(i);
     let h = wide(height);
-    let mut l = 0;
-    while l < m {
-        let back = place.0 - ranks[l].0;
-        insert_level(w, m, l, h, slots[l], o, back);
-        l += 1;
+    for l in 0..m {
+        let back = place.0 - path.ranks[l].0;
+        insert_level(w, m, l, h, path.slots[l], o, back);
     }
 }
 
@@ -123,13 +82,9 @@ pub fn remove_links(w: &mut [u32], m: usize, list: Slot, i: Index, o: Slot, h: u
     requires node_is { NodeIs w.old list.0 i.0 o.0 h }
     ensures { LinksDone w.old (do_remove (decode w.old) list.0 i.0) m w.new }
 {
-    let slots = path.slots;
-    let ranks = path.ranks;
     let place = Rank::before(i);
-    let mut l = 0;
-    while l < m {
-        let back = place.0 - ranks[l].0;
-        remove_level(w, m, l, h, slots[l], o, back);
-        l += 1;
+    for l in 0..m {
+        let back = place.0 - path.ranks[l].0;
+        remove_level(w, m, l, h, path.slots[l], o, back);
     }
 }

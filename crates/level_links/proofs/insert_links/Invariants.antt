@@ -1,5 +1,5 @@
 -- `level_links::insert_links` meets its contract: after l turns the links of the levels below l are those of the new model.
-use Prim.Native.Nat.{ℕ, ◌-◌, ◌≤◌}
+use Prim.Native.Nat.{ℕ}
 use mathlib.Core.Path.{◌≡◌}
 use lib.ListN.{take}
 use Rattle.model.specs.Passes.{decode}
@@ -10,9 +10,5 @@ use Rattle.level_links.proofs.insert_links.Given as goal
 
 abbrev pub invariant-loop-l : goal.invariant-loop-l
 invariant-loop-l l =
-    ((a i : ℕ) → l.place.0 ≡ i → CanInsert l.initial.w l.m a i l.key l.height → Before l.initial.w l.m a i l.slots l.ranks
-    → Relinked (decode l.initial.w) (inserted_at (decode l.initial.w) a i l.key l.height) (take 8 l.initial.w) l.m l.l l.w)
-    × (l.l ≤ l.m)
-
-abbrev pub decreases-loop-l : goal.decreases-loop-l
-decreases-loop-l l = l.m - l.l
+    (a i : ℕ) → l.place.0 ≡ i → CanInsert l.initial.w l.m a i l.key l.height → Before l.initial.w l.m a i l.path.slots l.path.ranks
+    → Relinked (decode l.initial.w) (inserted_at (decode l.initial.w) a i l.key l.height) (take 8 l.initial.w) l.m l.l l.w
