@@ -13,7 +13,8 @@ ghost use Rattle.level_links.specs.OneLevel.{farther_link, LinksDone};
 ghost use Rattle.join.specs.Joins.{Joins, LevelJoins};
 
 use arena::{COUNT, LAST, Link, NEXT, Path, Slot, cell, link_at, put_link, put2};
-use level_links::farther_link;
+use level_links::at_distance;
+use link::farther;
 
 // Level l: the head's link of `from` goes to s, the last owner of the other list, which stands `by` ranks before the head.
 fn join_level(w: &mut [u32], m: usize, l: usize, s: Slot, from: Slot, by: u32)
@@ -21,7 +22,8 @@ fn join_level(w: &mut [u32], m: usize, l: usize, s: Slot, from: Slot, by: u32)
     ensures { w.new ≡
         put_link m (put_link m w.old s.0 l (farther_link by (link_at m w.old from.0 l))) from.0 l absent_link }
 {
-    let hung = farther_link(link_at(w, m, from, l), by);
+    let old = link_at(w, m, from, l);
+    let hung = at_distance(old, farther(old.distance, by));
     put_link(w, m, s, l, hung);
     put_link(w, m, from, l, Link::ABSENT);
 }
@@ -32,13 +34,9 @@ fn join_links(w: &mut [u32], m: usize, onto: Slot, from: Slot, n: u32, path: Pat
     requires n_value { n ≡ length (nodes w.old onto.0) }
     ensures { LinksDone w.old (do_join (decode w.old) onto.0 from.0) m w.new }
 {
-    let slots = path.slots;
-    let ranks = path.ranks;
-    let mut l = 0;
-    while l < m {
-        let by = n - ranks[l].0;
-        join_level(w, m, l, slots[l], from, by);
-        l += 1;
+    for l in 0..m {
+        let by = n - path.ranks[l].0;
+        join_level(w, m, l, path.slots[l], from, by);
     }
 }
 
@@ -47,13 +45,12 @@ pub fn join(w: &mut [u32], m: usize, onto: Slot, from: Slot, path: Path)
     requires { Joins w.old m onto.0 from.0 × Leads w.old m onto.0 (length (nodes w.old onto.0)) path }
     ensures { w.new ≡ encode (do_join (decode w.old) onto.0 from.0) }
 {
-    let end = path.end;
     let n = cell(w, m, onto, COUNT);
     join_links(w, m, onto, from, n, path);
     let more = cell(w, m, from, COUNT);
     let first = cell(w, m, from, NEXT);
     let last = cell(w, m, from, LAST);
     put2(w, m, LAST, onto, last, from, Slot::NONE.0);
-    put2(w, m, NEXT, end, first, from, Slot::NONE.0);
+    put2(w, m, NEXT, path.end, first, from, Slot::NONE.0);
     put2(w, m, COUNT, onto, n + more, from, 0);
 }

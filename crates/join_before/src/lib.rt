@@ -12,7 +12,8 @@ ghost use Rattle.join.specs.Joins.{Joins, LevelJoins};
 ghost use Rattle.join_before.specs.Preceded.{do_join_before, link_before, next_before};
 
 use arena::{COUNT, LAST, Link, NEXT, Path, Slot, cell, link_at, put, put_link, put2};
-use level_links::farther_link;
+use level_links::at_distance;
+use link::farther;
 
 // Level l: the head's link of a goes to s, the last owner of b, `by` ranks before it; then the head's link of b goes to the head of a.
 // Slot s may be b itself.
@@ -20,7 +21,8 @@ fn before_level(w: &mut [u32], m: usize, l: usize, s: Slot, a: Slot, b: Slot, by
     requires { LevelJoins w.old m l s.0 a.0 by × LinkIn w.old m b.0 l }
     ensures { w.new ≡ link_before m w.old l s.0 (farther_link by (link_at m w.old a.0 l)) a.0 b.0 }
 {
-    let hung = farther_link(link_at(w, m, a, l), by);
+    let old = link_at(w, m, a, l);
+    let hung = at_distance(old, farther(old.distance, by));
     put_link(w, m, s, l, hung);
     let moved = link_at(w, m, b, l);
     put_link(w, m, a, l, moved);
@@ -33,13 +35,9 @@ fn before_links(w: &mut [u32], m: usize, a: Slot, b: Slot, n: u32, path: Path)
     requires n_value { n ≡ length (nodes w.old b.0) }
     ensures { LinksDone w.old (do_join_before (decode w.old) a.0 b.0) m w.new }
 {
-    let slots = path.slots;
-    let ranks = path.ranks;
-    let mut l = 0;
-    while l < m {
-        let by = n - ranks[l].0;
-        before_level(w, m, l, slots[l], a, b, by);
-        l += 1;
+    for l in 0..m {
+        let by = n - path.ranks[l].0;
+        before_level(w, m, l, path.slots[l], a, b, by);
     }
 }
 
@@ -58,12 +56,11 @@ pub fn join_before(w: &mut [u32], m: usize, a: Slot, b: Slot, path: Path)
     requires { Joins w.old m b.0 a.0 × Leads w.old m b.0 (length (nodes w.old b.0)) path }
     ensures { w.new ≡ encode (do_join_before (decode w.old) a.0 b.0) }
 {
-    let end = path.end;
     let n = cell(w, m, b, COUNT);
     before_links(w, m, a, b, n, path);
     let more = cell(w, m, a, COUNT);
     let first = cell(w, m, a, NEXT);
     put(w, m, b, LAST, Slot::NONE.0);
-    before_next(w, m, end, first, a, b);
+    before_next(w, m, path.end, first, a, b);
     put2(w, m, COUNT, a, n + more, b, 0);
 }

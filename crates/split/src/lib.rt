@@ -16,7 +16,8 @@ ghost use Rattle.split.specs.Splits.{Splits};
 use arena::{
     COUNT, Index, Key, LAST, Link, NEXT, Path, Rank, Slot, cell, last_slot, link_at, put_link, put2,
 };
-use level_links::nearer_link;
+use level_links::at_distance;
+use link::nearer;
 
 // Level l: the link of the precursor s goes to the head `to`, which stands `by` ranks behind s, and ends here.
 fn split_level(w: &mut [u32], m: usize, l: usize, s: Slot, to: Slot, by: u32)
@@ -24,7 +25,8 @@ fn split_level(w: &mut [u32], m: usize, l: usize, s: Slot, to: Slot, by: u32)
     ensures { w.new ≡
         put_link m (put_link m w.old s.0 l absent_link) to.0 l (nearer_link by (link_at m w.old s.0 l)) }
 {
-    let moved = nearer_link(link_at(w, m, s, l), by);
+    let old = link_at(w, m, s, l);
+    let moved = at_distance(old, nearer(old.distance, by));
     put_link(w, m, s, l, Link::ABSENT);
     put_link(w, m, to, l, moved);
 }
@@ -33,14 +35,10 @@ fn split_links(w: &mut [u32], m: usize, from: Slot, to: Slot, i: Index, path: Pa
     requires { Splits w.old m from.0 to.0 i.0 × Leads w.old m from.0 i.0 path }
     ensures { LinksDone w.old (do_split (decode w.old) from.0 to.0 i.0) m w.new }
 {
-    let slots = path.slots;
-    let ranks = path.ranks;
     let place = Rank::before(i);
-    let mut l = 0;
-    while l < m {
-        let by = place.0 - ranks[l].0;
-        split_level(w, m, l, slots[l], to, by);
-        l += 1;
+    for l in 0..m {
+        let by = place.0 - path.ranks[l].0;
+        split_level(w, m, l, path.slots[l], to, by);
     }
 }
 
@@ -49,15 +47,14 @@ fn split(w: &mut [u32], m: usize, from: Slot, to: Slot, i: Index, path: Path)
     requires { Splits w.old m from.0 to.0 i.0 × Leads w.old m from.0 i.0 path }
     ensures { w.new ≡ encode (do_split (decode w.old) from.0 to.0 i.0) }
 {
-    let end = path.end;
     split_links(w, m, from, to, i, path);
     let rest = cell(w, m, from, COUNT) - i.0;
-    let first = cell(w, m, end, NEXT);
+    let first = cell(w, m, path.end, NEXT);
     let last = Slot(cell(w, m, from, LAST));
-    let kept = last_slot(i.0, end);
+    let kept = last_slot(i.0, path.end);
     let moved = last_slot(rest, last);
     put2(w, m, LAST, from, kept.0, to, moved.0);
-    put2(w, m, NEXT, end, Slot::NONE.0, to, first);
+    put2(w, m, NEXT, path.end, Slot::NONE.0, to, first);
     put2(w, m, COUNT, from, i.0, to, rest);
 }
 
@@ -76,6 +73,5 @@ pub fn split_key(w: &mut [u32], m: usize, from: Slot, to: Slot, key: Key)
     ensures { w.new ≡ encode (do_split (decode w.old) from.0 to.0 (smaller key (nodes w.old from.0))) }
 {
     let trail = precursors::find(w, m, from, key);
-    let path = trail.path;
-    split(w, m, from, to, trail.place, path);
+    split(w, m, from, to, trail.place, trail.path);
 }

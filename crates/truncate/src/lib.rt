@@ -21,11 +21,8 @@ fn end_links(w: &mut [u32], m: usize, list: Slot, n: Index, path: Path)
     requires { NodeThere w.old m list.0 n.0 × Leads w.old m list.0 n.0 path }
     ensures { Unlinked w.old m list.0 n.0 w.new }
 {
-    let slots = path.slots;
-    let mut l = 0;
-    while l < m {
-        put_link(w, m, slots[l], l, Link::ABSENT);
-        l += 1;
+    for l in 0..m {
+        put_link(w, m, path.slots[l], l, Link::ABSENT);
     }
 }
 
@@ -40,7 +37,7 @@ fn end_chain(w: &mut [u32], m: usize, list: Slot, n: Index, end: Slot)
     put(w, m, list, COUNT, n.0);
 }
 
-// Keeps the first n nodes, to whose end the path leads. In the loop slot s is the node at index i, and `front` stands first on the free chain.
+// Keeps the first n nodes, to whose end the path leads. In the loop slot s is the next node to go, and `front` stands first on the free chain.
 fn trim(w: &mut [u32], m: usize, list: Slot, n: Index, path: Path)
     requires { NodeThere w.old m list.0 n.0 × Leads w.old m list.0 n.0 path }
     ensures { w.new ≡ encode (do_truncate (decode w.old) list.0 n.0) }
@@ -52,13 +49,11 @@ fn trim(w: &mut [u32], m: usize, list: Slot, n: Index, path: Path)
     let free = header(w, FREE_WORD);
     end_links(w, m, list, n, path);
     end_chain(w, m, list, n, end);
-    let mut i = n.0;
-    while i < count {
+    for _ in n.0..count {
         let next = Slot(cell(w, m, s, NEXT));
         free_node(w, m, s, front);
         front = s;
         s = next;
-        i += 1;
     }
     put_header(w, FIRST_FREE_WORD, front.0);
     put_header(w, FREE_WORD, free + (count - n.0));

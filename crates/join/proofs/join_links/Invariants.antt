@@ -1,5 +1,5 @@
 -- `join::join_links` meets its contract: after l turns the links of the levels below l are as after the join.
-use Prim.Native.Nat.{ℕ, ◌-◌, ◌≤◌}
+use Prim.Native.Nat.{ℕ}
 use mathlib.Core.Path.{◌≡◌}
 use lib.ListN.{length}
 use Rattle.model.specs.Passes.{nodes}
@@ -10,7 +10,4 @@ use Rattle.join.proofs.join_links.Given as goal
 
 abbrev pub invariant-loop-l : goal.invariant-loop-l
 invariant-loop-l l =
-    ((a : ℕ) (p : Joins l.initial.w l.m a l.from.0) → l.n ≡ length (nodes l.initial.w a) → Before l.initial.w l.m a (length (nodes l.initial.w a)) l.slots l.ranks → JoinLevels p l.l l.w) × (l.l ≤ l.m)
-
-abbrev pub decreases-loop-l : goal.decreases-loop-l
-decreases-loop-l l = l.m - l.l
+    (a : ℕ) (p : Joins l.initial.w l.m a l.from.0) → l.n ≡ length (nodes l.initial.w a) → Before l.initial.w l.m a (length (nodes l.initial.w a)) l.path.slots l.path.ranks → JoinLevels p l.l l.w

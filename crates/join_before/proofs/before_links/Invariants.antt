@@ -1,5 +1,4 @@
 -- `join_before::before_links` meets its contract: after l turns the links of the levels below l are as after the join before.
-use Prim.Native.Nat.{◌-◌, ◌≤◌}
 use lib.ListN.{take}
 use Rattle.model.specs.Passes.{decode}
 use Rattle.arena.proofs.Relink.{Relinked}
@@ -7,7 +6,4 @@ use Rattle.join_before.specs.Preceded.{do_join_before}
 use Rattle.join_before.proofs.before_links.Given as goal
 
 abbrev pub invariant-loop-l : goal.invariant-loop-l
-invariant-loop-l l = Relinked (decode l.initial.w) (do_join_before (decode l.initial.w) l.a.0 l.b.0) (take 8 l.initial.w) l.m l.l l.w × (l.l ≤ l.m)
-
-abbrev pub decreases-loop-l : goal.decreases-loop-l
-decreases-loop-l l = l.m - l.l
+invariant-loop-l l = Relinked (decode l.initial.w) (do_join_before (decode l.initial.w) l.a.0 l.b.0) (take 8 l.initial.w) l.m l.l l.w

@@ -5,21 +5,19 @@ use Rattle.truncate.proofs.Ending.{none-ended, precursor_link, level_ended, unli
 use Rattle.truncate.proofs.end_links.Goals as goal
 
 pub loop-l-init : goal.loop-l-init
-loop-l-init c = ((λ a n p ranks q. none-ended p), omega arith)
+loop-l-init c = λ a n p ranks q. none-ended p
 
 pub put_link-requires : goal.put_link-requires
 put_link-requires c =
     let p = c.requires.0 in
     let q = c.requires.1.before in
-    precursor_link p q (c.loop-l.invariant.0 _ _ p _ q) c.loop-l-test.true
+    precursor_link p q (c.loop-l.invariant _ _ p _ q) (omega arith)
 
 pub loop-l-preserved : goal.loop-l-preserved
-loop-l-preserved c = (
-  (λ a n p ranks q. level_ended p q (c.loop-l.invariant.0 a n p ranks q) c.loop-l-test.true c.put_link.ensures),
-  omega (arith, c.loop-l-test.true),
-)
+loop-l-preserved c =
+    λ a n p ranks q. level_ended p q (c.loop-l.invariant a n p ranks q) (omega arith) c.put_link.ensures
 
 pub returns : goal.returns
 returns c =
     let p = c.requires.0 in
-    unlinked p (c.loop-l.invariant.0 _ _ p _ c.requires.1.before) c.loop-l.invariant.1 c.loop-l-test.false
+    unlinked p (c.loop-l.invariant _ _ p _ c.requires.1.before) (omega arith) (omega arith)

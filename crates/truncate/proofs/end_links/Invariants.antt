@@ -9,7 +9,4 @@ use Rattle.truncate.proofs.end_links.Given as goal
 
 abbrev pub invariant-loop-l : goal.invariant-loop-l
 invariant-loop-l l =
-    ((a n : ℕ) (p : NodeThere l.initial.w l.m a n) (ranks : List Rank) → Before l.initial.w l.m a n l.slots ranks → ChainEnded p (to_column 0) (to_column l.l) l.w) × (l.l ≤ l.m)
-
-abbrev pub decreases-loop-l : goal.decreases-loop-l
-decreases-loop-l l = l.m - l.l
+    (a n : ℕ) (p : NodeThere l.initial.w l.m a n) (ranks : List Rank) → Before l.initial.w l.m a n l.path.slots ranks → ChainEnded p (to_column 0) (to_column l.l) l.w
