@@ -42,13 +42,12 @@ fn trim(w: &mut [u32], m: usize, list: Slot, n: Index, path: Path)
     requires { NodeThere w.old m list.0 n.0 × Leads w.old m list.0 n.0 path }
     ensures { w.new ≡ encode (do_truncate (decode w.old) list.0 n.0) }
 {
-    let end = path.end;
     let count = cell(w, m, list, COUNT);
-    let mut s = Slot(cell(w, m, end, NEXT));
+    let mut s = Slot(cell(w, m, path.end, NEXT));
     let mut front = Slot(header(w, FIRST_FREE_WORD));
     let free = header(w, FREE_WORD);
     end_links(w, m, list, n, path);
-    end_chain(w, m, list, n, end);
+    end_chain(w, m, list, n, path.end);
     for _ in n.0..count {
         let next = Slot(cell(w, m, s, NEXT));
         free_node(w, m, s, front);

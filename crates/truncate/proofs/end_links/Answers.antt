@@ -1,5 +1,4 @@
 -- `truncate::end_links` meets its contract: after l turns the links of the levels below l are those of the shortened list.
-use Prim.Native.Nat.{◌-◌}
 use native.Mathlib.Omega.{arith}
 use Rattle.truncate.proofs.Ending.{none-ended, precursor_link, level_ended, unlinked}
 use Rattle.truncate.proofs.end_links.Goals as goal

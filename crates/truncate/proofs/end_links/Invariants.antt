@@ -1,5 +1,5 @@
 -- `truncate::end_links` meets its contract: after l turns the links of the levels below l are those of the shortened list.
-use Prim.Native.Nat.{ℕ, ◌-◌, ◌≤◌}
+use Prim.Native.Nat.{ℕ}
 use mathlib.Core.List.{List}
 use Rattle.model.specs.Arena.{to_column}
 use Rattle.arena.specs.Owners.{Before, NodeThere}

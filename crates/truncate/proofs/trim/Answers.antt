@@ -1,5 +1,4 @@
 -- `truncate::trim` meets its contract: the list ends at the path, then the nodes behind are freed one by one, and the header says so.
-use Prim.Native.Nat.{◌-◌}
 use native.Mathlib.Omega.{arith}
 use Rattle.truncate.proofs.Ending.{both_there, ended}
 use Rattle.truncate.proofs.Freeing.{head_cell, count_is, end-cell, more_than, total_fits}
@@ -18,13 +17,13 @@ pub end_chain-requires : goal.end_chain-requires
 end_chain-requires c =
     both_there c.requires.0 c.requires.1.end c.end_links.ensures
 
-pub cell-requires-in-loop-i : goal.cell-requires-in-loop-i
-cell-requires-in-loop-i c =
+pub cell-requires-in-loop : goal.cell-requires-in-loop
+cell-requires-in-loop c =
     let p = c.requires.0 in
     let e = c.requires.1.end in
     let count = count_is p c.cell-count.ensures in
     let start = free_start p e c.cell.ensures c.header.ensures (ended p e c.end_links.ensures c.end_chain.ensures) in
-    next-cell p (c.loop-i.invariant _ _ p count start) (omega (arith, c.loop-i-test.true, count))
+    next-cell p (c.loop.invariant _ _ p count start) (omega arith)
 
 pub free_node-requires : goal.free_node-requires
 free_node-requires c =
@@ -32,12 +31,12 @@ free_node-requires c =
     let e = c.requires.1.end in
     let count = count_is p c.cell-count.ensures in
     let start = free_start p e c.cell.ensures c.header.ensures (ended p e c.end_links.ensures c.end_chain.ensures) in
-    node_at p (c.loop-i.invariant _ _ p count start) (omega (arith, c.loop-i-test.true, count))
+    node_at p (c.loop.invariant _ _ p count start) (omega arith)
 
-pub loop-i-preserved : goal.loop-i-preserved
-loop-i-preserved c =
+pub loop-preserved : goal.loop-preserved
+loop-preserved c =
     λ v a p e g.
-    free_turn p (c.loop-i.invariant v a p e g) (omega (arith, c.loop-i-test.true, e)) c.cell-in-loop-i.ensures
+    free_turn p (c.loop.invariant v a p e g) (omega arith) c.cell-in-loop.ensures
     c.free_node.ensures c.free_node.auto.w
 
 pub overflow_sub-count : goal.overflow_sub-count
@@ -53,5 +52,5 @@ returns c =
     let e = c.requires.1.end in
     let count = count_is p c.cell-count.ensures in
     let start = free_start p e c.cell.ensures c.header.ensures (ended p e c.end_links.ensures c.end_chain.ensures) in
-    freed-all p (c.loop-i.invariant _ _ p count start) (omega (arith, c.loop-i-test.false, count)) c.header-free.ensures c.cell-count.ensures
+    freed-all p (c.loop.invariant _ _ p count start) (omega arith) c.header-free.ensures c.cell-count.ensures
     (rw c.put_header.ensures at c.put_header-2.ensures)
