@@ -6,25 +6,19 @@ use lib.ListN.{length, get_or, set, length-set}
 use lib.Seq.{get_or-set_same, get_or-set_other}
 use native.Mathlib.Numerals.{add-one}
 use native.Mathlib.Omega.{arith}
-use Rattle.model.proofs.Tests.{hit, miss, test}
+use Rattle.model.proofs.Tests.{hit, miss, test, same, other, same?}
+use Rattle.std.proofs.lemmas.Grind.{get_or-set_at}
 use Rattle.link_check.specs.declared.Dims.{Dims}
 use Rattle.link_check.specs.LevelLinks.{OwnerSlots, filled}
 
--- ---- the loop that stores: l levels of h are filled ----
-pub record Filling (h v l : ℕ) (xs ys : List ℕ) : Type 0 where
-  pub within : l ≤ h
-  pub is : ys ≡ filled l v xs
-
-pub fill_none : {h v : ℕ} {xs : List ℕ} → Filling h v 0 xs xs
+-- ---- the loop that stores: ys has v at the l levels passed, and is xs elsewhere ----
+pub fill_none : (v : ℕ) (xs : List ℕ) → xs ≡ filled 0 v xs
 unfolding filled
-fill_none = record { within = omega arith; is = refl }
+fill_none v xs = refl
 
-pub fill_more : {h v l : ℕ} {xs ys : List ℕ} → Filling h v l xs ys → l < h → Filling h v (l + 1) xs (set ys l v)
+pub fill_more : (v l : ℕ) (xs ys : List ℕ) → ys ≡ filled l v xs → set ys l v ≡ filled (l + 1) v xs
 unfolding filled
-fill_more {h} {v} {l} f m = rw (add-one l) (record { within = omega arith; is = ap (λ (t : List ℕ). set t l v) f.is })
-
-pub fill_all : {h v l : ℕ} {xs ys : List ℕ} → Filling h v l xs ys → h ≤ l → ys ≡ filled h v xs
-fill_all {h} {v} {l} f m = let e : h ≡ l = omega (arith, f.within) in rw e f.is
+fill_more v l xs ys f = rw (add-one l) (ap (λ (t : List ℕ). set t l v) f)
 
 -- ---- what is filled, level by level ----
 pub length-filled : (h v : ℕ) (xs : List ℕ) → length (filled h v xs) ≡ length xs
@@ -45,11 +39,12 @@ filled-below (suc h) v xs l k i = elim (test h l) [
   | miss e p ↦ get_or-set_other (filled h v xs) h l v 0 (λ e. omega arith) ∙ filled-below h v xs l p i
 ]
 
-pub owners_filled : (d : Dims) (h s : ℕ) (os : List ℕ) → OwnerSlots d os → d.levels ≤ 16 → s < d.lists + d.room → OwnerSlots d (filled h s os)
-owners_filled d h s os o m k = record {
-  full = length-filled h s os ∙ o.full;
-  slot = λ l i. elim (test (suc l) h) [
-    | hit e p ↦ rw (filled-below h s os l p (omega (arith, o.full))) k
-    | miss e p ↦ rw (filled-above h s os l (omega arith)) (o.slot l i)
+-- a slot in place of an owner's
+pub owner_set : {d : Dims} {os : List ℕ} (l s : ℕ) → OwnerSlots d os → d.levels ≤ 16 → s < d.lists + d.room → OwnerSlots d (set os l s)
+owner_set {d} {os} l s o m k = record {
+  full = length-set os l s ∙ o.full;
+  slot = λ j i. elim (same? j l) [
+    | same e p ↦ rw (get_or-set_at os l j s 0 p (omega (arith, o.full))) k
+    | other e n ↦ rw (get_or-set_other os l j s 0 n) (o.slot j i)
   ];
 }

@@ -5,8 +5,8 @@
 mod pending;
 mod records;
 
-pub use pending::{fill, pending_absent, pending_reach};
-pub use records::{absent_from, cell_of, is_node_slot, key_of};
+pub use pending::Pending;
+pub use records::Records;
 
 // The numbers of lists, levels and nodes.
 #[derive(Clone, Copy)]

@@ -1,88 +1,70 @@
-// The pending links of a walk: of each level the link of the last owner that was met there. Two arrays hold the owners' slots and ranks.
-ghost use Rattle.std.specs.Prelude.{◌≡◌, ◌+◌, ◌≤◌, ◌<◌};
+// The pending links of a walk: of each level the link of the last owner that was met there.
+ghost use Rattle.std.specs.Prelude.{◌≡◌, ◌+◌, ◌≤◌, ◌<◌, get_or, replicate};
 ghost use Rattle.arena.specs.Decides.{Decides};
-ghost use Rattle.link_check.specs.Shape.{Shape};
 ghost use Rattle.link_check.specs.LevelLinks.{Reaches, PendingReach, PendingAbsent, OwnerSlots, filled};
 
-use super::Dims;
-use super::records::{link_absent, link_of};
+use super::Records;
 use arena::{Rank, Slot};
 
-// Whether the link of level l of slot o, which has rank q, goes to slot s, which has rank r. The sum of two words may pass 32 bits.
-fn reaches(w: &[u32], d: Dims, l: usize, o: Slot, q: Rank, s: Slot, r: Rank) -> bool
-    requires shape { Shape w.now d }
-    requires o_bound { o.0 < d.lists + d.room }
-    requires l_lt_levels { l < d.levels }
-    ensures { Decides result (Reaches w.now d l o.0 q.0 s.0 r.0) }
-{
-    let link = link_of(w, d, o, l);
-    if link.target.0 != s.0 {
-        return false;
-    }
-    let reached = (q.0 as u64) + (link.distance as u64);
-    let wanted = r.0 as u64;
-    if reached != wanted {
-        return false;
-    }
-    true
+// The owners' slots and ranks, by level.
+#[derive(Drop)]
+pub struct Pending<'a> {
+    pub records: Records<'a>,
+    pub slots: [u32; 16],
+    pub ranks: [u32; 16],
+    pub ghost owners: { OwnerSlots records.dims slots },
 }
 
-// Whether at each level below h the pending link goes to slot s, which has rank r.
-pub fn pending_reach(
-    w: &[u32],
-    d: Dims,
-    slots: &[u32; 16],
-    ranks: &[u32; 16],
-    h: usize,
-    s: Slot,
-    r: Rank,
-) -> bool
-    requires shape { Shape w.now d }
-    requires owner_slots { OwnerSlots d slots.now }
-    requires h_le_levels { h ≤ d.levels }
-    ensures { Decides result (PendingReach w.now d slots.now ranks.now h s.0 r.0) }
-{
-    let slot = s.0;
-    let rank = r.0;
-    let mut l: usize = 0;
-    while l < h {
-        let owner = slots[l];
-        let from = ranks[l];
-        if reaches(w, d, l, Slot(owner), Rank(from), Slot(slot), Rank(rank)) {
-            l += 1;
-        } else {
-            return false;
+impl<'a> Pending<'a> {
+    // Of the list of head a, before its first node: every owner is the head.
+    pub fn new(records: Records<'a>, a: Slot) -> Pending<'a>
+        requires { a.0 < records.dims.lists + records.dims.room }
+        ensures records { result.records ≡ records.entry }
+        ensures slots { result.slots ≡ replicate 16 a.0 }
+        ensures ranks { result.ranks ≡ replicate 16 0 }
+    {
+        Pending {
+            records,
+            slots: [a.0; 16],
+            ranks: [Rank::HEAD.0; 16],
         }
     }
-    true
-}
 
-// Whether every pending link is absent.
-pub fn pending_absent(w: &[u32], d: Dims, slots: &[u32; 16]) -> bool
-    requires shape { Shape w.now d }
-    requires owner_slots { OwnerSlots d slots.now }
-    ensures { Decides result (PendingAbsent w.now d slots.now) }
-{
-    let mut l: usize = 0;
-    while l < d.levels {
-        let owner = slots[l];
-        if link_absent(w, d, Slot(owner), l) {
-            l += 1;
-        } else {
-            return false;
-        }
+    // Whether the link of level l of its owner goes to slot s, which has rank r. The sum of two words may pass 32 bits.
+    fn reaches(&self, l: usize, s: Slot, r: Rank) -> bool
+        requires { l < self.now.records.dims.levels }
+        ensures { Decides result (Reaches self.now.records.words.now self.now.records.dims l (get_or self.now.slots l 0) (get_or self.now.ranks l 0) s.0 r.0) }
+    {
+        let link = self.records.link(Slot(self.slots[l]), l);
+        link.target.0 == s.0 && u64::from(self.ranks[l]) + u64::from(link.distance) == u64::from(r.0)
     }
-    true
-}
 
-// Stores v at each level below h.
-pub fn fill(xs: &mut [u32; 16], h: usize, v: u32)
-    requires { h ≤ 16 }
-    ensures { xs.new ≡ filled h v xs.old }
-{
-    let mut l: usize = 0;
-    while l < h {
-        xs[l] = v;
-        l += 1;
+    // Whether at each level below h the pending link goes to slot s, which has rank r.
+    pub fn reach(&self, h: usize, s: Slot, r: Rank) -> bool
+        requires { h ≤ self.now.records.dims.levels }
+        ensures { Decides result (PendingReach self.now.records.words.now self.now.records.dims self.now.slots self.now.ranks h s.0 r.0) }
+    {
+        (0..h).all(|l| self.reaches(l, s, r))
+    }
+
+    // Whether every pending link is absent.
+    pub fn absent(&self) -> bool
+        ensures { Decides result (PendingAbsent self.now.records.words.now self.now.records.dims self.now.slots) }
+    {
+        (0..self.records.dims.levels).all(|l| self.records.link_absent(Slot(self.slots[l]), l))
+    }
+
+    // The node in slot s, which has rank r, becomes the owner of each level below h.
+    pub fn fill(&mut self, h: usize, s: Slot, r: Rank)
+        requires height { h ≤ self.old.records.dims.levels }
+        requires slot { s.0 < self.old.records.dims.lists + self.old.records.dims.room }
+        ensures records { self.new.records ≡ self.old.records }
+        ensures slots { self.new.slots ≡ filled h s.0 self.old.slots }
+        ensures ranks { self.new.ranks ≡ filled h r.0 self.old.ranks }
+    {
+        for l in 0..h {
+            self.slots[l] = s.0;
+            self.ranks[l] = r.0;
+        }
     }
 }

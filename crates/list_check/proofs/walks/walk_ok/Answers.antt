@@ -1,25 +1,57 @@
 -- `list_check::walks::walk_ok` meets its contract. The loop's invariant: the list is right exactly when what is left of it is.
-use mathlib.Core.Path.{◌∙◌}
-use Rattle.list_check.proofs.WalkSteps.{walk_next, wrong_node, list-goes-on, other_last, walk_decided}
+use native.Mathlib.Omega.{arith}
+use mathlib.Core.Path.{sym, ◌∙◌}
+use borrow.Author.Tests.{eqb-true, eqb-false}
+use Rattle.arena.proofs.Deciding.{yes}
+use Rattle.list_check.proofs.WalkSteps.{walk_start, walk_next, wrong_node, list-goes-on, other_last, walk_decided}
+use Rattle.list_check.proofs.walks.walk_ok.Goals.{then-at, else-at}
 use Rattle.list_check.proofs.walks.walk_ok.Goals as goal
 
-pub loop-left-preserved : goal.loop-left-preserved
-loop-left-preserved c =
-    walk_next c.loop-left.invariant c.loop-left-test.true c.node_ok.ensures c.requires.shape c.if-node_ok.true
-    (c.wide-h.ensures ∙ c.cell_of.ensures) c.fill.ensures c.fill-then-node_ok.ensures c.key_of-key.ensures c.cell_of-at-then-node_ok.ensures
+pub loop-index-init : goal.loop-index-init
+loop-index-init c = record {
+  records = c.new-pending.ensures.records;
+  walk = walk_start (omega (arith, c.cell-index-end.ensures)) c.cell.ensures c.new-pending.ensures.slots c.new-pending.ensures.ranks;
+}
 
-pub returns-else-node_ok : goal.returns-else-node_ok
-returns-else-node_ok c =
-    wrong_node c.loop-left.invariant c.loop-left-test.true c.node_ok.ensures c.if-node_ok.false
+pub returns-then-not-node_ok : goal.returns-then-not-node_ok
+returns-then-not-node_ok c =
+    wrong_node c.loop-index.invariant.walk (omega arith) (rw c.loop-index.invariant.records at c.node_ok.ensures) c.if-not-node_ok.true
 
-pub returns-then-at : goal.returns-then-at
-returns-then-at c =
-    list-goes-on c.loop-left.invariant c.loop-left-test.false c.if-at.true
+pub cell-requires-in-loop-index-clause-s_bound : goal.cell-requires-in-loop-index-clause-s_bound
+cell-requires-in-loop-index-clause-s_bound c =
+    (yes (rw c.loop-index.invariant.records at c.node_ok.ensures) c.if-not-node_ok.false).slot.below
 
-pub returns-then-last-named : goal.returns-then-last-named
-returns-then-last-named c =
-    other_last c.loop-left.invariant c.loop-left-test.false c.cell_of-named.ensures c.if-last-named.true
+pub fill-requires-clause-height : goal.fill-requires-clause-height
+fill-requires-clause-height c =
+    let e = c.loop-index.invariant.records in
+    rw e (omega (arith, (yes (rw e at c.node_ok.ensures) c.if-not-node_ok.false).low))
 
-pub returns : goal.returns
-returns c =
-    walk_decided c.loop-left.invariant c.loop-left-test.false c.if-at.false c.cell_of-named.ensures c.if-last-named.false c.pending_absent.ensures
+pub key-key-requires : goal.key-key-requires
+key-key-requires c =
+    (yes (rw c.loop-index.invariant.records at c.node_ok.ensures) c.if-not-node_ok.false).slot.below
+
+pub cell-requires-in-loop-index-2-clause-s_bound : goal.cell-requires-in-loop-index-2-clause-s_bound
+cell-requires-in-loop-index-2-clause-s_bound c =
+    (yes (rw c.loop-index.invariant.records at c.node_ok.ensures) c.if-not-node_ok.false).slot.below
+
+pub loop-index-preserved : goal.loop-index-preserved
+loop-index-preserved c = record {
+  records = c.fill.ensures.records ∙ c.loop-index.invariant.records;
+  walk = walk_next c.loop-index.invariant.walk (omega arith) (rw c.loop-index.invariant.records at c.node_ok.ensures) c.if-not-node_ok.false
+      (c.wide.ensures ∙ c.cell-in-loop-index.ensures) c.fill.ensures.slots c.fill.ensures.ranks c.key-key.ensures c.cell-in-loop-index-2.ensures;
+}
+
+pub returns-then-last-cell : goal.returns-then-last-cell
+returns-then-last-cell c = elim c.if-at.branch [
+  | then-at w ↦
+      walk_decided c.loop-index.invariant.walk (omega arith) w.if-at.true w.cell-then-at.ensures
+      (eqb-true _ _ (sym w.value-is ∙ c.if-last-cell.true)) (rw c.loop-index.invariant.records at c.absent.ensures)
+  | else-at w ↦ absurd (w.if-at.false (eqb-true _ _ (sym w.value-is ∙ c.if-last-cell.true)))
+]
+
+pub returns-else-last-cell : goal.returns-else-last-cell
+returns-else-last-cell c = rw c.if-last-cell.false (elim c.if-at.branch [
+  | then-at w ↦
+      other_last c.loop-index.invariant.walk (omega arith) w.cell-then-at.ensures (eqb-false _ _ (sym w.value-is ∙ c.if-last-cell.false))
+  | else-at w ↦ list-goes-on c.loop-index.invariant.walk (omega arith) w.if-at.false
+])

@@ -1,10 +1,11 @@
 -- `list_check::walks::walk_ok` meets its contract. The loop's invariant: the list is right exactly when what is left of it is.
+use Prim.Native.Nat.{◌-◌}
+use mathlib.Core.Path.{◌≡◌}
 use Rattle.list_check.proofs.WalkSteps.{WalkAt}
 use Rattle.list_check.proofs.walks.walk_ok.Given as goal
 
-abbrev pub invariant-loop-left : goal.invariant-loop-left
-invariant-loop-left l =
-    WalkAt l.w l.d l.head l.left l.at l.key l.last l.rank l.slots l.ranks
-
-abbrev pub decreases-loop-left : goal.decreases-loop-left
-decreases-loop-left l = l.left
+abbrev pub invariant-loop-index : goal.invariant-loop-index
+invariant-loop-index l = record {
+  records : l.pending.records ≡ l.records;
+  walk : WalkAt l.records.words.now l.records.dims l.a.0 (l.index-end - l.index) l.at.0 l.key l.last.0 l.index l.pending.slots l.pending.ranks;
+}

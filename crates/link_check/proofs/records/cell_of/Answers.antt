@@ -1,6 +1,0 @@
--- `link_check::records::cell_of` meets its contract: the record lies in the words.
-use Rattle.link_check.proofs.InShape.{cell_in_shape}
-use Rattle.link_check.proofs.records.cell_of.Goals as goal
-
-pub cell-requires : goal.cell-requires
-cell-requires c = cell_in_shape c.requires.shape c.requires.s_bound c.requires.c_bound
