@@ -3,6 +3,7 @@ use Rattle.std.specs.Prelude.{ℕ, zero, suc, ◌+◌, ◌≤◌, ◌≡◌, Lis
 use Rattle.model.specs.Arena.{header_words, mark_word, version_word, lists_word, levels_word, room_word, first_free_word, free_word, zero_word, mark, version}
 use Rattle.model.specs.Nodes.{N}
 use Rattle.link_check.specs.declared.Dims.{Dims}
+use Rattle.link_check.specs.declared.records.Records.{Records}
 use Rattle.link_check.specs.Shape.{Shape, count_in, last_in}
 
 -- The numbers of lists, levels and nodes that the header says; of free slots, and the first of them.
@@ -22,6 +23,12 @@ pub record Headed (w : List ℕ) : Type 0 where
   pub is_version : get_or w version_word 0 ≡ version
   pub last_word : get_or w zero_word 0 ≡ 0
   pub shape : Shape w (dims_of w)
+
+-- The records r are those of the words w, whose header is right.
+pub record HeaderRead (w : List ℕ) (r : Records) : Type 0 where
+  pub headed : Headed w
+  pub words : r.words.now ≡ w
+  pub dims : r.dims ≡ dims_of w
 
 -- The lengths that the first n heads say, in all.
 unfoldable pub lengths : List ℕ → Dims → ℕ → ℕ

@@ -1,49 +1,32 @@
 // The free chain on any words: the form of a free node, and the walk along the chain.
 ghost use Rattle.arena.specs.Decides.{Decides};
-ghost use Rattle.link_check.specs.Shape.{Shape};
 ghost use Rattle.arena_check.specs.Headed.{free_count, first_free_slot};
 ghost use Rattle.arena_check.specs.FreeChain.{FreeNode, FreeFrom};
 
 use arena::Slot;
-use link_check::{Dims, absent_from, cell_of, is_node_slot};
+use link_check::Records;
 
 // Whether slot s has the form of a free node.
-fn free_node(w: &[u32], d: Dims, s: Slot) -> bool
-    requires { Shape w.now d }
-    ensures { Decides result (FreeNode w.now d s.0) }
+fn free_node(records: Records, s: Slot) -> bool
+    ensures { Decides result (FreeNode records.entry.words.now records.entry.dims s.0) }
 {
-    if is_node_slot(d, s) {} else {
-        return false;
-    }
-    if cell_of(w, d, s, arena::KEY) != 0 {
-        return false;
-    }
-    if cell_of(w, d, s, arena::HEIGHT) != Slot::NONE.0 {
-        return false;
-    }
-    if cell_of(w, d, s, arena::LAST) != 0 {
-        return false;
-    }
-    absent_from(w, d, s, 0)
+    records.is_node_slot(s)
+        && records.cell(s, arena::KEY) == 0
+        && records.cell(s, arena::HEIGHT) == Slot::NONE.0
+        && records.cell(s, arena::LAST) == 0
+        && records.absent_from(s, 0)
 }
 
 // Whether the free chain is right.
-pub fn free_ok(w: &[u32], d: Dims) -> bool
-    requires { Shape w.now d }
-    ensures { Decides result (FreeFrom w.now d (free_count w.now) (first_free_slot w.now)) }
+pub fn free_ok(records: Records) -> bool
+    ensures { Decides result (FreeFrom records.entry.words.now records.entry.dims (free_count records.entry.words.now) (first_free_slot records.entry.words.now)) }
 {
-    let mut left = w[arena::FREE_WORD];
-    let mut at = w[arena::FIRST_FREE_WORD];
-    while 0 < left {
-        if free_node(w, d, Slot(at)) {
-            at = cell_of(w, d, Slot(at), arena::NEXT);
-            left -= 1;
-        } else {
+    let mut at = Slot(records.words[arena::FIRST_FREE_WORD]);
+    for _ in 0..records.words[arena::FREE_WORD] {
+        if !free_node(records, at) {
             return false;
         }
+        at = Slot(records.cell(at, arena::NEXT));
     }
-    if at != Slot::NONE.0 {
-        return false;
-    }
-    true
+    at.0 == Slot::NONE.0
 }

@@ -1,57 +1,38 @@
 // The header on any words: its numbers, and the counts that the heads add to it.
-ghost use Rattle.std.specs.Prelude.{◌≡◌, ◌+◌};
-ghost use Rattle.arena.specs.Decides.{Decides};
-ghost use Rattle.link_check.specs.Shape.{Shape};
-ghost use Rattle.arena_check.specs.Headed.{dims_of, Headed, free_count, lengths};
+ghost use Rattle.std.specs.Prelude.{◌≡◌, ◌+◌, MatchOption};
+ghost use Rattle.arena_check.specs.Headed.{Headed, HeaderRead, free_count, lengths};
 
 use arena::Slot;
-use link_check::{Dims, cell_of};
+use link_check::{Dims, Records};
 
-// Whether the words have the header of an arena of their length.
-pub fn header_ok(w: &[u32]) -> bool
-    ensures { Decides result (Headed w.now) }
+// The records of words that have the header of an arena of their length.
+pub fn records(w: &[u32]) -> Option<Records<'_>>
+    ensures { MatchOption result (Headed w.now → ⊥) (HeaderRead w.now) }
 {
-    if w.len() < arena::HEADER {
-        return false;
+    if w.len() >= arena::HEADER
+        && w[arena::MARK_WORD] == arena::MARK
+        && w[arena::VERSION_WORD] == arena::VERSION
+        && w[arena::ZERO_WORD] == 0
+    {
+        let lists = w[arena::LISTS_WORD];
+        let levels = w[arena::LEVELS_WORD];
+        let room = w[arena::ROOM_WORD];
+        if arena::fits(lists, levels, room, w.len()) {
+            let levels = arena::wide(levels);
+            let dims = Dims { lists, levels, room };
+            return Some(Records { words: w, dims });
+        }
     }
-    if w[arena::MARK_WORD] != arena::MARK {
-        return false;
-    }
-    if w[arena::VERSION_WORD] != arena::VERSION {
-        return false;
-    }
-    if w[arena::ZERO_WORD] != 0 {
-        return false;
-    }
-    let l = w[arena::LISTS_WORD];
-    let m = w[arena::LEVELS_WORD];
-    let c = w[arena::ROOM_WORD];
-    arena::fits(l, m, c, w.len())
-}
-
-// The numbers that the header says.
-pub fn dims_of(w: &[u32]) -> Dims
-    requires { Headed w.now }
-    ensures { result ≡ dims_of w.now }
-{
-    let levels = arena::wide(w[arena::LEVELS_WORD]);
-    Dims {
-        lists: w[arena::LISTS_WORD],
-        levels,
-        room: w[arena::ROOM_WORD],
-    }
+    None
 }
 
 // The number of free slots and the lengths of all lists, as the header and the heads say them, in all.
-pub fn counted(w: &[u32], d: Dims) -> usize
-    requires { Shape w.now d }
-    ensures { result ≡ free_count w.now + lengths w.now d d.lists }
+pub fn counted(records: Records) -> usize
+    ensures { result ≡ free_count records.entry.words.now + lengths records.entry.words.now records.entry.dims records.entry.dims.lists }
 {
-    let mut sum = arena::wide(w[arena::FREE_WORD]);
-    let mut a: u32 = 0;
-    while a < d.lists {
-        sum += arena::wide(cell_of(w, d, Slot(a), arena::COUNT));
-        a += 1;
+    let mut sum = arena::wide(records.words[arena::FREE_WORD]);
+    for a in 0..records.dims.lists {
+        sum += arena::wide(records.cell(Slot(a), arena::COUNT));
     }
     sum
 }

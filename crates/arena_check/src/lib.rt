@@ -14,21 +14,13 @@ mod heads;
 fn whole(w: &[u32]) -> bool
     ensures { Decides result (Whole w.now) }
 {
-    if header::header_ok(w) {} else {
+    let Some(records) = header::records(w) else {
         return false;
-    }
-    let d = header::dims_of(w);
-    if header::counted(w, d) != arena::wide(d.room) {
-        return false;
-    }
-    if free::free_ok(w, d) {} else {
-        return false;
-    }
-    if heads::lists_ok(w, d) {
-        heads::lasts_apart(w, d)
-    } else {
-        false
-    }
+    };
+    header::counted(records) == arena::wide(records.dims.room)
+        && free::free_ok(records)
+        && heads::lists_ok(records)
+        && heads::lasts_apart(records)
 }
 
 // "yes or no, for any words": whether the arena passes the check.
