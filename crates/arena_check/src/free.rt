@@ -28,5 +28,5 @@ pub fn free_ok(records: Records) -> bool
         }
         at = Slot(records.cell(at, arena::NEXT));
     }
-    at.0 == Slot::NONE.0
+    at == Slot::NONE
 }

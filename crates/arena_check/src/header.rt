@@ -18,8 +18,12 @@ pub fn records(w: &[u32]) -> Option<Records<'_>>
         let levels = w[arena::LEVELS_WORD];
         let room = w[arena::ROOM_WORD];
         if arena::fits(lists, levels, room, w.len()) {
-            let levels = arena::wide(levels);
-            let dims = Dims { lists, levels, room };
+            let levels = levels as usize;
+            let dims = Dims {
+                lists,
+                levels,
+                room,
+            };
             return Some(Records { words: w, dims });
         }
     }
@@ -30,9 +34,9 @@ pub fn records(w: &[u32]) -> Option<Records<'_>>
 pub fn counted(records: Records) -> usize
     ensures { result ≡ free_count records.entry.words.now + lengths records.entry.words.now records.entry.dims records.entry.dims.lists }
 {
-    let mut sum = arena::wide(records.words[arena::FREE_WORD]);
+    let mut sum = records.words[arena::FREE_WORD] as usize;
     for a in 0..records.dims.lists {
-        sum += arena::wide(records.cell(Slot(a), arena::COUNT));
+        sum += records.cell(Slot(a), arena::COUNT) as usize;
     }
     sum
 }

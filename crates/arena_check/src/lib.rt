@@ -17,7 +17,7 @@ fn whole(w: &[u32]) -> bool
     let Some(records) = header::records(w) else {
         return false;
     };
-    header::counted(records) == arena::wide(records.dims.room)
+    header::counted(records) == records.dims.room as usize
         && free::free_ok(records)
         && heads::lists_ok(records)
         && heads::lasts_apart(records)

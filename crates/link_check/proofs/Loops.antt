@@ -40,8 +40,8 @@ module _ (lo hi : ℕ) (P : ℕ → Type 0) where
   -- a range whose `all` asks P of each number, by a test that leaves the closure as it was
   pub all_decided : {F : Type 0} {g : Mut F (ℕ × Unit {0}) Bool} {u : Range ℕ} {f : F} {r : Bool}
       → (xs : List ℕ) × (o : Option ℕ) × (j : F) × YieldsThen nat_range_steps (record { start = lo; end = hi }) xs o u
-        × FoldsTo (λ p x q. Called g p (x, tt) true q) f xs j
-        × MatchOption o (r ≡ true) (λ x. (r ≡ false) × ((h : F) × Called g j (x, tt) false h))
+      × FoldsTo (λ p x q. Called g p (x, tt) true q) f xs j
+      × MatchOption o (r ≡ true) (λ x. (r ≡ false) × ((h : F) × Called g j (x, tt) false h))
       → ((x : ℕ) (b : Bool) (q : F) → Called g f (x, tt) b q → (q ≡ f) × Decides b (P x)) → Decides r (EachFrom lo hi P)
   all_decided {u = u} {f = f} {r = r} a h = each-decided r (
       cases_from_all u f r P (λ x. P x → ⊥) a (YieldsList-from_range lo hi (hi - lo) refl refl)

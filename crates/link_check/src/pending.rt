@@ -36,7 +36,7 @@ impl<'a> Pending<'a> {
         ensures { Decides result (Reaches self.now.records.words.now self.now.records.dims l (get_or self.now.slots l 0) (get_or self.now.ranks l 0) s.0 r.0) }
     {
         let link = self.records.link(Slot(self.slots[l]), l);
-        link.target.0 == s.0 && u64::from(self.ranks[l]) + u64::from(link.distance) == u64::from(r.0)
+        link.target == s && u64::from(self.ranks[l]) + u64::from(link.distance) == u64::from(r.0)
     }
 
     // Whether at each level below h the pending link goes to slot s, which has rank r.

@@ -15,7 +15,7 @@ fn node_ok(pending: &Pending, s: Slot, k: Key, r: Rank) -> bool
     if !records.is_node_slot(s) || arena::below(records.key(s), k) {
         return false;
     }
-    let h = arena::wide(records.cell(s, arena::HEIGHT));
+    let h = records.cell(s, arena::HEIGHT) as usize;
     h <= records.dims.levels
         && records.cell(s, arena::LAST) == 0
         && pending.reach(h, s, r)
@@ -37,12 +37,12 @@ fn walk_ok(records: Records, a: Slot) -> bool
         if !node_ok(&pending, at, key, rank) {
             return false;
         }
-        pending.fill(arena::wide(records.cell(at, arena::HEIGHT)), at, rank);
+        pending.fill(records.cell(at, arena::HEIGHT) as usize, at, rank);
         key = records.key(at);
         last = at;
         at = Slot(records.cell(at, arena::NEXT));
     }
-    at.0 == Slot::NONE.0 && last.0 == records.cell(a, arena::LAST) && pending.absent()
+    at == Slot::NONE && last == Slot(records.cell(a, arena::LAST)) && pending.absent()
 }
 
 // Whether the list of head a is right.
@@ -51,5 +51,5 @@ pub fn list_ok(records: Records, a: Slot) -> bool
     requires a_bound { count_in records.words.now records.dims a.0 ≤ records.dims.room }
     ensures { Decides result (ListOk records.entry.words.now records.entry.dims a.0) }
 {
-    arena::wide(records.cell(a, arena::HEIGHT)) == records.dims.levels && walk_ok(records, a)
+    records.cell(a, arena::HEIGHT) as usize == records.dims.levels && walk_ok(records, a)
 }

@@ -1,13 +1,13 @@
 -- `arena_check::header::counted` meets its contract. The loop's invariant: the sum of the free count and of the lengths of the heads passed.
-use mathlib.Core.Path.{◌∙◌}
+use mathlib.Core.Path.{refl}
 use native.Mathlib.Omega.{arith}
 use Rattle.std.proofs.Common.{rules}
 use Rattle.arena_check.proofs.HeadTests.{count_none, count_more}
 use Rattle.arena_check.proofs.header.counted.Goals as goal
 
 pub loop-a-init : goal.loop-a-init
-loop-a-init c = count_none c.wide-sum.ensures (search rules)
+loop-a-init c = count_none refl (search rules)
 
 pub loop-a-preserved : goal.loop-a-preserved
 loop-a-preserved c =
-    count_more c.loop-a.invariant (c.wide-sum-in-loop-a.ensures ∙ c.cell.ensures) (omega (arith, c.wide-sum-in-loop-a.ensures, c.cell.type_inv))
+    count_more c.loop-a.invariant c.cell.ensures c.cell.type_inv

@@ -1,10 +1,10 @@
 -- `list_check::walks::walk_ok` meets its contract. The loop's invariant: the list is right exactly when what is left of it is.
 use native.Mathlib.Omega.{arith}
 use mathlib.Core.Path.{sym, ◌∙◌}
-use borrow.Author.Tests.{eqb-true, eqb-false}
+use borrow.Author.Tests.{both_ways, eqb-true, eqb-false}
 use Rattle.arena.proofs.Deciding.{yes}
 use Rattle.list_check.proofs.WalkSteps.{walk_start, walk_next, wrong_node, list-goes-on, other_last, walk_decided}
-use Rattle.list_check.proofs.walks.walk_ok.Goals.{then-at, else-at}
+use Rattle.list_check.proofs.walks.walk_ok.Goals.{then-eq, else-eq}
 use Rattle.list_check.proofs.walks.walk_ok.Goals as goal
 
 pub loop-index-init : goal.loop-index-init
@@ -38,20 +38,21 @@ pub loop-index-preserved : goal.loop-index-preserved
 loop-index-preserved c = record {
   records = c.fill.ensures.records ∙ c.loop-index.invariant.records;
   walk = walk_next c.loop-index.invariant.walk (omega arith) (rw c.loop-index.invariant.records at c.node_ok.ensures) c.if-not-node_ok.false
-      (c.wide.ensures ∙ c.cell-in-loop-index.ensures) c.fill.ensures.slots c.fill.ensures.ranks c.key-key.ensures c.cell-in-loop-index-2.ensures;
+      c.cell-in-loop-index.ensures c.fill.ensures.slots c.fill.ensures.ranks c.key-key.ensures c.cell-in-loop-index-2.ensures;
 }
 
-pub returns-then-last-cell : goal.returns-then-last-cell
-returns-then-last-cell c = elim c.if-at.branch [
-  | then-at w ↦
-      walk_decided c.loop-index.invariant.walk (omega arith) w.if-at.true w.cell-then-at.ensures
-      (eqb-true _ _ (sym w.value-is ∙ c.if-last-cell.true)) (rw c.loop-index.invariant.records at c.absent.ensures)
-  | else-at w ↦ absurd (w.if-at.false (eqb-true _ _ (sym w.value-is ∙ c.if-last-cell.true)))
+pub returns-then-eq-2 : goal.returns-then-eq-2
+returns-then-eq-2 c = elim c.if-eq.branch [
+  | then-eq w ↦
+      walk_decided c.loop-index.invariant.walk (omega arith) (eqb-true _ _ (sym c.eq.ensures ∙ w.if-eq.true)) w.cell-then-eq.ensures
+      (eqb-true _ _ (sym w.eq-then-eq.ensures ∙ sym w.value-is ∙ c.if-eq-2.true)) (rw c.loop-index.invariant.records at c.absent.ensures)
+  | else-eq w ↦ absurd (both_ways _ (w.value-is ∙ w.if-eq.false) c.if-eq-2.true)
 ]
 
-pub returns-else-last-cell : goal.returns-else-last-cell
-returns-else-last-cell c = rw c.if-last-cell.false (elim c.if-at.branch [
-  | then-at w ↦
-      other_last c.loop-index.invariant.walk (omega arith) w.cell-then-at.ensures (eqb-false _ _ (sym w.value-is ∙ c.if-last-cell.false))
-  | else-at w ↦ list-goes-on c.loop-index.invariant.walk (omega arith) w.if-at.false
+pub returns-else-eq-2 : goal.returns-else-eq-2
+returns-else-eq-2 c = rw c.if-eq-2.false (elim c.if-eq.branch [
+  | then-eq w ↦
+      other_last c.loop-index.invariant.walk (omega arith) w.cell-then-eq.ensures
+      (eqb-false _ _ (sym w.eq-then-eq.ensures ∙ sym w.value-is ∙ c.if-eq-2.false))
+  | else-eq w ↦ list-goes-on c.loop-index.invariant.walk (omega arith) (eqb-false _ _ (sym c.eq.ensures ∙ w.if-eq.false))
 ])
