@@ -1,5 +1,6 @@
 -- What a call keeps of an arena that passes: when it is refused, when it is accepted, when it only reads. Rests on specs/Lists and specs/Kept.
 use Prim.Native.Nat.{ℕ}
+use Rattle.std.specs.Prelude.{Result, Err}
 use mathlib.Core.Path.{◌≡◌, refl, sym, ap, ◌∙◌}
 use mathlib.Core.Bool.{Bool, true, false, cond}
 use mathlib.Core.List.{List}
@@ -12,8 +13,6 @@ use Rattle.model.specs.Calls.{Call, Answer, refused, refusal, accepted, performe
 use Rattle.answers.specs.Told.{number_of}
 use Rattle.answers.specs.Lists.{NamesOne, NamesTwo}
 use Rattle.answers.specs.Kept.{Kept}
-use Rattle.answers.specs.declared.lists.Named.{Named}
-use Rattle.answers.specs.declared.lists.Named.TheVariants.{Refused}
 use Rattle.answers.specs.declared.Refusal.{Refusal}
 use Rattle.answers.proofs.Numbers.{below_ten}
 
@@ -30,11 +29,11 @@ module _ {w : List ℕ} (p : Passes w) where
       record { answered = rw (e, some, not-ten) refl; left = rw (e, some) p.words }
 
   -- what `one_list` and `two_lists` refuse
-  pub declines_one : (a : ℕ) {x : Named} {r : Refusal} {c : Call} → NamesOne w a x → x ≡ Refused r
+  pub declines_one : (a : ℕ) {x : Result ℕ Refusal} {r : Refusal} {c : Call} → NamesOne w a x → x ≡ Err r
       → (later : ℕ) → refusal (decode w) c ≡ row3 (decode w) a later → Kept c w w (refused (number_of r))
   declines_one a {r = r} o e later q = declines r (q ∙ (rw e at o) later)
 
-  pub declines_two : (a b : ℕ) {x : Named} {r : Refusal} {c : Call} → NamesTwo w a b x → x ≡ Refused r
+  pub declines_two : (a b : ℕ) {x : Result ℕ Refusal} {r : Refusal} {c : Call} → NamesTwo w a b x → x ≡ Err r
       → (later : ℕ) → refusal (decode w) c ≡ row3 (decode w) a (row3 (decode w) b (row4 a b later)) → Kept c w w (refused (number_of r))
   declines_two a b {r = r} o e later q = declines r (q ∙ (rw e at o) later)
 

@@ -1,16 +1,12 @@
 -- Document 01's answer for every case of the answer types. Rests on model's Calls.
-use Rattle.std.specs.Prelude.{ℕ, true, false}
+use Rattle.std.specs.Prelude.{ℕ, true, false, Result, Ok, Err, ⊤}
 use Rattle.model.specs.Calls.{Answer, searched, keyed, plain, refused, beyond}
 use Rattle.answers.specs.declared.Refusal.{Refusal}
 use Rattle.answers.specs.declared.Refusal.TheVariants.{Broken, NoList, SameList, TooHigh, Full, NotEmpty, PastEnd, NoKey}
-use Rattle.answers.specs.declared.SearchAnswer.{SearchAnswer}
-use Rattle.answers.specs.declared.SearchAnswer.TheVariants.{Found, Missing, Beyond, Refused}
-use Rattle.answers.specs.declared.KeyAnswer.{KeyAnswer}
-use Rattle.answers.specs.declared.KeyAnswer.TheVariants.{Is, Refused as RefusedKey}
-use Rattle.answers.specs.declared.MiddleAnswer.{MiddleAnswer}
-use Rattle.answers.specs.declared.MiddleAnswer.TheVariants.{Twice, Refused as RefusedMiddle}
-use Rattle.answers.specs.declared.PlainAnswer.{PlainAnswer}
-use Rattle.answers.specs.declared.PlainAnswer.TheVariants.{Accepted, Refused as RefusedPlain}
+use Rattle.answers.specs.declared.SearchError.{SearchError}
+use Rattle.answers.specs.declared.SearchError.TheVariants.{Refused, Beyond}
+use Rattle.key_walk.specs.declared.Searched.{Searched}
+use Rattle.key_walk.specs.declared.Searched.TheVariants.{Found, Missing}
 
 -- "Refusal numbers, in order of testing".
 abbrev pub number_of : Refusal → ℕ
@@ -23,21 +19,20 @@ number_of NotEmpty = 7
 number_of PastEnd = 8
 number_of NoKey = 9
 
-abbrev pub search_told : SearchAnswer → Answer
-search_told (Found i n) = searched true i.0 n
-search_told (Missing i n) = searched false i.0 n
-search_told (Beyond allowance) = beyond allowance
-search_told (Refused r) = refused (number_of r)
+abbrev pub search_told : Result Searched SearchError → Answer
+search_told (Ok (Found i n)) = searched true i.0 n
+search_told (Ok (Missing i n)) = searched false i.0 n
+search_told (Err (Beyond allowance)) = beyond allowance
+search_told (Err (Refused r)) = refused (number_of r)
 
-abbrev pub key_told : KeyAnswer → Answer
-key_told (Is k) = keyed k
-key_told (RefusedKey r) = refused (number_of r)
+abbrev pub key_told : Result ℕ Refusal → Answer
+key_told (Ok k) = keyed k
+key_told (Err r) = refused (number_of r)
 
 -- Request K2: "twice the median", in the place of a key.
-abbrev pub middle_told : MiddleAnswer → Answer
-middle_told (Twice n) = keyed n
-middle_told (RefusedMiddle r) = refused (number_of r)
+abbrev pub middle_told : Result ℕ Refusal → Answer
+middle_told = key_told
 
-abbrev pub plain_told : PlainAnswer → Answer
-plain_told Accepted = plain
-plain_told (RefusedPlain r) = refused (number_of r)
+abbrev pub plain_told : Result ⊤ Refusal → Answer
+plain_told (Ok x) = plain
+plain_told (Err r) = refused (number_of r)

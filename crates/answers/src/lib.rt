@@ -1,50 +1,46 @@
-// What the calls on an arena answer, a type for each kind of answer, and the rows of the table of refusals that ask for the lists a call names.
+// What the calls on an arena answer, and the rows of the table of refusals that come first: the check's verdict, and the lists a call names.
 #![tactic(auto)]
 
 mod lists;
 
-use arena::Index;
-pub use lists::{Named, one_list, two_lists};
+ghost use Rattle.std.specs.Prelude.{◌≡◌};
+ghost use Rattle.answers.specs.declared.SearchError.TheVariants.{Refused, Beyond};
 
-// Why a call on an arena is refused, but for the search's allowance.
-#[derive(Clone, Copy)]
+pub use key_walk::Searched;
+pub use lists::{one_list, passed, two_lists};
+
+// Why a call on an arena is refused, but for the search's allowance: "Refusal numbers, in order of testing".
+#[derive(Clone, Copy, PartialEq, Eq, Debug)]
 pub enum Refusal {
-    Broken,
-    NoList,
-    SameList,
-    TooHigh,
-    Full,
-    NotEmpty,
-    PastEnd,
-    NoKey,
+    Broken = 1,
+    NoList = 3,
+    SameList = 4,
+    TooHigh = 5,
+    Full = 6,
+    NotEmpty = 7,
+    PastEnd = 8,
+    NoKey = 9,
 }
 
-// What a search answers: an index or a place, with the tally; or the allowance that the tally is above.
-#[derive(Clone, Copy)]
-pub enum SearchAnswer {
-    Found(Index, u32),
-    Missing(Index, u32),
+// Why a search is refused: as every call, or with the allowance that the tally is above.
+#[derive(Clone, Copy, PartialEq, Eq, Debug)]
+pub enum SearchError {
+    Refused(Refusal),
     Beyond(u32),
-    Refused(Refusal),
 }
 
-// What a call that answers a key answers.
-#[derive(Clone, Copy)]
-pub enum KeyAnswer {
-    Is(u32),
-    Refused(Refusal),
+impl From<Refusal> for SearchError {
+    ghost from_gives = { λ r e. e ≡ Refused r };
+
+    fn from(r: Refusal) -> SearchError {
+        SearchError::Refused(r)
+    }
 }
 
-// What the middle call answers: twice the median.
-#[derive(Clone, Copy)]
-pub enum MiddleAnswer {
-    Twice(u64),
-    Refused(Refusal),
-}
+impl From<key_walk::Beyond> for SearchError {
+    ghost from_gives = { λ b e. e ≡ Beyond b.0 };
 
-// What a call that answers nothing more answers.
-#[derive(Clone, Copy)]
-pub enum PlainAnswer {
-    Accepted,
-    Refused(Refusal),
+    fn from(b: key_walk::Beyond) -> SearchError {
+        SearchError::Beyond(b.0)
+    }
 }

@@ -1,2 +1,1 @@
-mod InsertRows
 mod RemoveByKey

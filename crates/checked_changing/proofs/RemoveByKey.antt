@@ -1,5 +1,6 @@
 -- A removal by key: what the search without an allowance tells, and what the removal answers and leaves. Rests on model's ByKey and Allowed.
 use Prim.Native.Nat.{ℕ, ◌≤◌}
+use Rattle.std.specs.Prelude.{Result, Ok, Err}
 use mathlib.Core.Path.{◌≡◌, refl, sym, ap, ◌∙◌}
 use mathlib.Core.Logic.{◌≢◌}
 use mathlib.Core.Bool.{Bool, true, false, cond}
@@ -23,8 +24,8 @@ use Rattle.arena.specs.Owners.{Listed, NodeThere}
 use Rattle.arena.specs.declared.Index.{Index}
 use Rattle.key_walk.specs.SearchAnswer.{answer_of}
 use Rattle.key_walk.specs.declared.Searched.{Searched}
-use Rattle.key_walk.specs.declared.Searched.TheVariants.{Found, Missing, Beyond}
-use Rattle.key_walk.specs.contracts.Searched.{the_type}
+use Rattle.key_walk.specs.declared.Searched.TheVariants.{Found, Missing}
+use Rattle.key_walk.specs.declared.Beyond.{Beyond}
 use Rattle.answers.specs.Kept.{Kept}
 
 module _ {w : List ℕ} {m a : ℕ} (p : Listed w m a) (k : ℕ) where
@@ -58,46 +59,29 @@ module _ {w : List ℕ} {m a : ℕ} (p : Listed w m a) (k : ℕ) where
   met true d e = refl
   met false d e = absurd (omega arith)
 
-  unmet : (b : Bool) {n : ℕ} → n ≡ cond b 1 0 → n ≡ 0 → b ≡ false
-  unmet true d e = absurd (omega arith)
-  unmet false d e = refl
+  -- the search without an allowance is never refused
+  pub enough : {b : Beyond} → answer_of (Err b) ≢ answer_to S (search a k 4294967295)
+  enough e = absurd (omega (arith, ap (λ (x : Answer). x.number) (e ∙ asked)))
 
-  -- what the search answered
-  module _ (r : Searched) (e : answer_of r ≡ answer_to S (search a k 4294967295)) where
-    not_found : ((i : Index) (n : ℕ) → r ≢ Found i n) → is_found walked ≡ false
-    not_found h = by r (e ∙ asked) h
-      where
-        by : (z : Searched) → answer_of z ≡ accepted S (search a k 4294967295) → ((i : Index) (n : ℕ) → z ≢ Found i n) → is_found walked ≡ false
-        by (Found i n) q t = absurd (t i n refl)
-        by (Missing i n) q t = unmet (is_found walked) (ap (λ (x : Answer). x.found) q) refl
-        by (Beyond n) q t = absurd (omega (arith, ap (λ (x : Answer). x.number) q))
+  -- it answered that the key is found
+  module _ {i : Index} {n : ℕ} (e : answer_of (Ok (Found i n)) ≡ answer_to S (search a k 4294967295)) where
+    told : searched true i.0 n ≡ accepted S (search a k 4294967295)
+    told = e ∙ asked
 
-    pub missing_words : ((i : Index) (n : ℕ) → r ≢ Found i n) → Kept (remove_key a k) w w (refused 9)
-    missing_words h =
-        let f = not_found h in
-        record {
-          answered = rw (lt-ltb a (length S.lists) p.list, f) refl;
-          left = p.passes.words ∙ (rw (lt-ltb a (length S.lists) p.list, f) refl);
-        }
+    found : is_found walked ≡ true
+    found = met (is_found walked) (ap (λ (x : Answer). x.found) told) refl
 
-    module _ {i : Index} {n : ℕ} (q : r ≡ Found i n) where
-      told : searched true i.0 n ≡ accepted S (search a k 4294967295)
-      told = sym (ap answer_of q) ∙ e ∙ asked
+    place_is : i.0 ≡ smaller k xs
+    place_is = ap (λ (x : Answer). x.place) told ∙ key_place S.levels k xs sorted
 
-      found : is_found walked ≡ true
-      found = met (is_found walked) (ap (λ (x : Answer). x.found) told) refl
+    key_is_lem : key_at xs i.0 ≡ k
+    key_is_lem = rw (place_is, ← key_place S.levels k xs sorted) (key_found S.levels k xs sorted found).equal
 
-      place_is : i.0 ≡ smaller k xs
-      place_is = ap (λ (x : Answer). x.place) told ∙ key_place S.levels k xs sorted
+    pub goes_out : NodeThere w m a i.0
+    goes_out = rw place_is (record { listed = p; index = found_within S p.passes.sound a k (p.list, found) })
 
-      key_is_lem : key_at xs i.0 ≡ k
-      key_is_lem = rw (place_is, ← key_place S.levels k xs sorted) (key_found S.levels k xs sorted found).equal
-
-      pub goes_out : NodeThere w m a i.0
-      goes_out = rw place_is (record { listed = p; index = found_within S p.passes.sound a k (p.list, found) })
-
-      pub removed_words : {x : ℕ} {u : List ℕ} → u ≡ encode (do_remove S a i.0) → x ≡ key_at xs i.0 → Kept (remove_key a k) w u (keyed x)
-      removed_words eu ex = record {
-        answered = rw (lt-ltb a (length S.lists) p.list, found) (ap keyed (ex ∙ key_is_lem));
-        left = rw (lt-ltb a (length S.lists) p.list, found) (eu ∙ ap (λ (j : ℕ). encode (do_remove S a j)) place_is);
-      }
+    pub removed_words : {x : ℕ} {u : List ℕ} → u ≡ encode (do_remove S a i.0) → x ≡ key_at xs i.0 → Kept (remove_key a k) w u (keyed x)
+    removed_words eu ex = record {
+      answered = rw (lt-ltb a (length S.lists) p.list, found) (ap keyed (ex ∙ key_is_lem));
+      left = rw (lt-ltb a (length S.lists) p.list, found) (eu ∙ ap (λ (j : ℕ). encode (do_remove S a j)) place_is);
+    }

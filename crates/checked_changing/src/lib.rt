@@ -8,9 +8,8 @@ ghost use Rattle.model.specs.Calls.{insert_key, remove_key, remove_index, level}
 ghost use Rattle.answers.specs.Told.{key_told, plain_told};
 ghost use Rattle.answers.specs.Kept.{Kept};
 
-use answers::{KeyAnswer, Named, PlainAnswer, Refusal};
+use answers::{Refusal, Searched};
 use arena::{Index, Slot};
-use key_walk::Searched;
 
 // How many slots are free.
 fn free(w: &[u32]) -> u32
@@ -20,61 +19,49 @@ fn free(w: &[u32]) -> u32
     arena::header(w, arena::FREE_WORD)
 }
 
-pub fn insert(w: &mut [u32], list: Slot, key: u32, height: u32) -> PlainAnswer
+pub fn insert(w: &mut [u32], list: Slot, key: u32, height: u32) -> Result<(), Refusal>
     requires { Passes w.old }
     ensures { Kept (insert_key list.0 key height) w.old w.new (plain_told result) }
 {
-    let m = match answers::one_list(w, list) {
-        Named::Levels(m) => m,
-        Named::Refused(r) => return PlainAnswer::Refused(r),
-    };
+    let m = answers::one_list(w, list)?;
     if m < arena::wide(height) {
-        return PlainAnswer::Refused(Refusal::TooHigh);
+        return Err(Refusal::TooHigh);
     }
     if free(w) == 0 {
-        return PlainAnswer::Refused(Refusal::Full);
+        return Err(Refusal::Full);
     }
     insertion::insert(w, m, list, key, height);
-    PlainAnswer::Accepted
+    Ok(())
 }
 
 // "A removal by key first asks the search, without an allowance, and goes on only when it is found."
-pub fn remove_key(w: &mut [u32], list: Slot, key: u32) -> KeyAnswer
+pub fn remove_key(w: &mut [u32], list: Slot, key: u32) -> Result<u32, Refusal>
     requires { Passes w.old }
     ensures { Kept (remove_key list.0 key) w.old w.new (key_told result) }
 {
-    let m = match answers::one_list(w, list) {
-        Named::Levels(m) => m,
-        Named::Refused(r) => return KeyAnswer::Refused(r),
+    let m = answers::one_list(w, list)?;
+    let Ok(Searched::Found(i, _)) = key_walk::search(w, m, list, key, u32::MAX) else {
+        return Err(Refusal::NoKey);
     };
-    let Searched::Found(i, _) = key_walk::search(w, m, list, key, 4294967295) else {
-        return KeyAnswer::Refused(Refusal::NoKey);
-    };
-    KeyAnswer::Is(removal::remove_at(w, m, list, i))
+    Ok(removal::remove_at(w, m, list, i))
 }
 
-pub fn remove_at(w: &mut [u32], list: Slot, i: Index) -> KeyAnswer
+pub fn remove_at(w: &mut [u32], list: Slot, i: Index) -> Result<u32, Refusal>
     requires { Passes w.old }
     ensures { Kept (remove_index list.0 i.0) w.old w.new (key_told result) }
 {
-    let m = match answers::one_list(w, list) {
-        Named::Levels(m) => m,
-        Named::Refused(r) => return KeyAnswer::Refused(r),
-    };
+    let m = answers::one_list(w, list)?;
     if rank_walk::length(w, m, list) <= i.0 {
-        return KeyAnswer::Refused(Refusal::PastEnd);
+        return Err(Refusal::PastEnd);
     }
-    KeyAnswer::Is(removal::remove_at(w, m, list, i))
+    Ok(removal::remove_at(w, m, list, i))
 }
 
-pub fn level(w: &mut [u32], list: Slot) -> PlainAnswer
+pub fn level(w: &mut [u32], list: Slot) -> Result<(), Refusal>
     requires { Passes w.old }
     ensures { Kept (level list.0) w.old w.new (plain_told result) }
 {
-    let m = match answers::one_list(w, list) {
-        Named::Levels(m) => m,
-        Named::Refused(r) => return PlainAnswer::Refused(r),
-    };
+    let m = answers::one_list(w, list)?;
     levelling::level(w, m, list);
-    PlainAnswer::Accepted
+    Ok(())
 }

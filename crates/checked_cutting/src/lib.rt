@@ -7,74 +7,59 @@ ghost use Rattle.model.specs.Calls.{truncate, clear, split_at, split_key, append
 ghost use Rattle.answers.specs.Told.{plain_told};
 ghost use Rattle.answers.specs.Kept.{Kept};
 
-use answers::{Named, PlainAnswer, Refusal};
+use answers::Refusal;
 use arena::{Index, Slot};
 
-pub fn truncate(w: &mut [u32], list: Slot, n: u32) -> PlainAnswer
+pub fn truncate(w: &mut [u32], list: Slot, n: u32) -> Result<(), Refusal>
     requires { Passes w.old }
     ensures { Kept (truncate list.0 n) w.old w.new (plain_told result) }
 {
-    let m = match answers::one_list(w, list) {
-        Named::Levels(m) => m,
-        Named::Refused(r) => return PlainAnswer::Refused(r),
-    };
+    let m = answers::one_list(w, list)?;
     truncate::truncate(w, m, list, n);
-    PlainAnswer::Accepted
+    Ok(())
 }
 
-pub fn clear(w: &mut [u32], list: Slot) -> PlainAnswer
+pub fn clear(w: &mut [u32], list: Slot) -> Result<(), Refusal>
     requires { Passes w.old }
     ensures { Kept (clear list.0) w.old w.new (plain_told result) }
 {
-    let m = match answers::one_list(w, list) {
-        Named::Levels(m) => m,
-        Named::Refused(r) => return PlainAnswer::Refused(r),
-    };
+    let m = answers::one_list(w, list)?;
     truncate::truncate(w, m, list, 0);
-    PlainAnswer::Accepted
+    Ok(())
 }
 
-pub fn split_at(w: &mut [u32], from: Slot, to: Slot, i: Index) -> PlainAnswer
+pub fn split_at(w: &mut [u32], from: Slot, to: Slot, i: Index) -> Result<(), Refusal>
     requires { Passes w.old }
     ensures { Kept (split_at from.0 to.0 i.0) w.old w.new (plain_told result) }
 {
-    let m = match answers::two_lists(w, from, to) {
-        Named::Levels(m) => m,
-        Named::Refused(r) => return PlainAnswer::Refused(r),
-    };
+    let m = answers::two_lists(w, from, to)?;
     if rank_walk::length(w, m, to) != 0 {
-        return PlainAnswer::Refused(Refusal::NotEmpty);
+        return Err(Refusal::NotEmpty);
     }
     if rank_walk::length(w, m, from) < i.0 {
-        return PlainAnswer::Refused(Refusal::PastEnd);
+        return Err(Refusal::PastEnd);
     }
     split::split_at(w, m, from, to, i);
-    PlainAnswer::Accepted
+    Ok(())
 }
 
-pub fn split_key(w: &mut [u32], from: Slot, to: Slot, key: u32) -> PlainAnswer
+pub fn split_key(w: &mut [u32], from: Slot, to: Slot, key: u32) -> Result<(), Refusal>
     requires { Passes w.old }
     ensures { Kept (split_key from.0 to.0 key) w.old w.new (plain_told result) }
 {
-    let m = match answers::two_lists(w, from, to) {
-        Named::Levels(m) => m,
-        Named::Refused(r) => return PlainAnswer::Refused(r),
-    };
+    let m = answers::two_lists(w, from, to)?;
     if rank_walk::length(w, m, to) != 0 {
-        return PlainAnswer::Refused(Refusal::NotEmpty);
+        return Err(Refusal::NotEmpty);
     }
     split::split_key(w, m, from, to, key);
-    PlainAnswer::Accepted
+    Ok(())
 }
 
-pub fn append(w: &mut [u32], a: Slot, b: Slot) -> PlainAnswer
+pub fn append(w: &mut [u32], a: Slot, b: Slot) -> Result<(), Refusal>
     requires { Passes w.old }
     ensures { Kept (append_list a.0 b.0) w.old w.new (plain_told result) }
 {
-    let m = match answers::two_lists(w, a, b) {
-        Named::Levels(m) => m,
-        Named::Refused(r) => return PlainAnswer::Refused(r),
-    };
+    let m = answers::two_lists(w, a, b)?;
     append::append(w, m, a, b);
-    PlainAnswer::Accepted
+    Ok(())
 }
