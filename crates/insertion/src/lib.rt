@@ -16,10 +16,7 @@ use level_links::insert_links;
 fn last_with(i: Index, n: u32, o: Slot, last: Slot) -> Slot
     ensures { result.0 ≡ cond (eqb i.0 n) o.0 last.0 }
 {
-    if i.0 == n {
-        return o;
-    }
-    last
+    if i.0 == n { o } else { last }
 }
 
 // A key at a height goes into the first free slot and stands before index i, where the keys stay in order.
@@ -39,8 +36,7 @@ pub fn insert_before(
     let free = header(w, FREE_WORD);
     let rest = Slot(cell(w, m, o, NEXT));
     let n = cell(w, m, list, COUNT);
-    let end = path.end;
-    let next = Slot(cell(w, m, end, NEXT));
+    let next = Slot(cell(w, m, path.end, NEXT));
     let last = last_with(i, n, o, Slot(cell(w, m, list, LAST)));
     insert_links(w, m, list, key, height, i, o, path);
     let head = Head {
@@ -54,7 +50,7 @@ pub fn insert_before(
         height,
         next,
     };
-    put_chain(w, m, head, end, o, node);
+    put_chain(w, m, head, path.end, o, node);
     put_free(w, rest, free - 1);
 }
 
@@ -64,7 +60,5 @@ pub fn insert(w: &mut [u32], m: usize, list: Slot, key: Key, height: u32)
     ensures { w.new ≡ encode (do_insert (decode w.old) list.0 key height) }
 {
     let trail = precursors::find(w, m, list, key);
-    let place = trail.place;
-    let path = trail.path;
-    insert_before(w, m, list, key, height, place, path);
+    insert_before(w, m, list, key, height, trail.place, trail.path);
 }

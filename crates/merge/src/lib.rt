@@ -33,7 +33,7 @@ pub fn merge(w: &mut [u32], m: usize, a: Slot, b: Slot)
     requires { TwoLists w.old m a.0 b.0 }
     ensures { w.new ≡ encode (do_merge (decode w.old) a.0 b.0) }
 {
-    while 0 < rank_walk::length(w, m, b) {
+    for _ in 0..rank_walk::length(w, m, b) {
         move_first(w, m, a, b);
     }
 }

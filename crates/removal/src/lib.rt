@@ -20,11 +20,11 @@ fn last_without(i: Index, n: u32, end: Slot, last: Slot) -> Slot
     requires { i.0 < 4294967295 }
     ensures { result.0 ≡ cond (eqb (i.0 + 1) n) (cond (eqb i.0 0) N end.0) last.0 }
 {
-    let rank = Rank::from_index(i).0;
-    if rank == n {
-        return last_slot(i.0, end);
+    if Rank::from_index(i).0 == n {
+        last_slot(i.0, end)
+    } else {
+        last
     }
-    last
 }
 
 // The node at index i goes, and its slot stands first on the free chain; answers its key.
@@ -32,13 +32,12 @@ pub fn remove_after(w: &mut [u32], m: usize, list: Slot, i: Index, path: Path) -
     requires { NodeThere w.old m list.0 i.0 × Leads w.old m list.0 i.0 path }
     ensures { w.new ≡ encode (do_remove (decode w.old) list.0 i.0) × (result ≡ key_at (nodes w.old list.0) i.0) }
 {
-    let end = path.end;
-    let o = Slot(cell(w, m, end, NEXT));
+    let o = Slot(cell(w, m, path.end, NEXT));
     let key = key_at(w, m, o);
     let height = cell(w, m, o, HEIGHT);
     let next = Slot(cell(w, m, o, NEXT));
     let n = cell(w, m, list, COUNT);
-    let last = last_without(i, n, end, Slot(cell(w, m, list, LAST)));
+    let last = last_without(i, n, path.end, Slot(cell(w, m, list, LAST)));
     let first = Slot(header(w, FIRST_FREE_WORD));
     let free = header(w, FREE_WORD);
     remove_links(w, m, list, i, o, wide(height), path);
@@ -53,7 +52,7 @@ pub fn remove_after(w: &mut [u32], m: usize, list: Slot, i: Index, path: Path) -
         height: Slot::NONE.0,
         next: first,
     };
-    put_chain(w, m, head, end, next, node);
+    put_chain(w, m, head, path.end, next, node);
     put_free(w, o, free + 1);
     key
 }
