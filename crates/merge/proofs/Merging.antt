@@ -1,5 +1,5 @@
 -- A merge, node by node: the first of b is removed and inserted in a, and what is left to merge leads to the same. Rests on Holding and model's Composing.
-use Prim.Native.Nat.{ℕ, ◌≤◌, ◌<◌}
+use Prim.Native.Nat.{ℕ, ◌+◌, ◌≤◌, ◌<◌}
 use mathlib.Core.Path.{◌≡◌, refl, sym, ap, ap₂, ◌∙◌}
 use mathlib.Core.List.{List, [], ◌∷◌}
 use lib.ListN.{length, drop, set, length-set}
@@ -97,8 +97,8 @@ module _ {w : List ℕ} {m a b : ℕ} (p : TwoLists w m a b) (some : 0 < length 
     pub still_two : TwoLists u m a b
     still_two = record { first = still_listed moved p.first; second = still_listed moved p.second; apart = p.apart }
 
-    pub fewer : length (nodes u b) < length (nodes w b)
-    fewer = omega (arith, ap length b-now, ap length (first_of (nodes w b) some))
+    pub one_fewer : length (nodes u b) + 1 ≡ length (nodes w b)
+    one_fewer = omega (arith, ap length b-now, ap length (first_of (nodes w b) some))
 
     pub same_merge : do_merge (decode u) a b ≡ do_merge S a b
     same_merge =
