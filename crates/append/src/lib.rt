@@ -8,11 +8,11 @@ ghost use Rattle.model.specs.Lists.{last_key};
 ghost use Rattle.model.specs.Arena.{encode};
 ghost use Rattle.model.specs.Calls.{do_append};
 ghost use Rattle.model.specs.Passes.{decode, nodes};
-ghost use Rattle.arena.specs.Owners.{Listed, TwoLists};
+ghost use Rattle.arena.specs.Owners.{Listed, TwoLists, Leads};
 ghost use Rattle.join.specs.Joins.{Joins};
 ghost use Rattle.join_before.specs.Preceded.{do_join_before};
 
-use arena::{Index, Key, LAST, NEXT, Slot, below, cell, key_at};
+use arena::{Index, Key, LAST, NEXT, Path, Slot, below, cell, key_at};
 
 fn first_key(w: &[u32], m: usize, list: Slot) -> Key
     requires { Listed w.now m list.0 × (0 < length (nodes w.now list.0)) }
@@ -30,13 +30,20 @@ fn last_key(w: &[u32], m: usize, list: Slot) -> Key
     key_at(w, m, last)
 }
 
+fn end_path(w: &[u32], m: usize, list: Slot) -> Path
+    requires { Listed w.now m list.0 }
+    ensures { Leads w.now m list.0 (length (nodes w.now list.0)) result }
+{
+    let n = rank_walk::length(w, m, list);
+    rank_walk::seek(w, m, list, Index(n))
+}
+
 // Where b follows a: b is hung behind a.
 fn follow(w: &mut [u32], m: usize, a: Slot, b: Slot)
     requires { Joins w.old m a.0 b.0 }
     ensures { w.new ≡ encode (do_join (decode w.old) a.0 b.0) }
 {
-    let n = rank_walk::length(w, m, a);
-    let path = rank_walk::seek(w, m, a, Index(n));
+    let path = end_path(w, m, a);
     join::join(w, m, a, b, path);
 }
 
@@ -45,8 +52,7 @@ fn precede(w: &mut [u32], m: usize, a: Slot, b: Slot)
     requires { Joins w.old m b.0 a.0 }
     ensures { w.new ≡ encode (do_join_before (decode w.old) a.0 b.0) }
 {
-    let n = rank_walk::length(w, m, b);
-    let path = rank_walk::seek(w, m, b, Index(n));
+    let path = end_path(w, m, b);
     join_before::join_before(w, m, a, b, path);
 }
 
