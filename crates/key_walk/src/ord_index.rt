@@ -23,25 +23,25 @@ fn descend(
 {
     let mut v = from;
     let mut stage = level;
+    // No `for`: a turn goes along a stage or down to the next, so that no count of turns stands before.
     while 0 < stage {
         let to = arena::target_in(w, v.base, stage);
-        if to.0 == Slot::NONE.0 {
-            stage = stage - 1;
+        if to == Slot::NONE {
+            stage -= 1;
             continue;
         }
+        // No `checked_sub`, here and below: a search of 255 keys would take a seventh more instructions.
         if v.left == 0 {
             return None;
         }
-        v.left = v.left - 1;
+        v.left -= 1;
         let there = arena::base_of(m, to);
         let met = arena::key_in(w, there);
         if !arena::below(met, key) {
-            stage = stage - 1;
+            stage -= 1;
             continue;
         }
-        let far = arena::distance_in(w, v.base, stage);
-        let rank = v.rank.plus(far);
-        v.rank = rank;
+        v.rank = v.rank.plus(arena::distance_in(w, v.base, stage));
         v.slot = to;
         v.base = there;
     }
@@ -55,23 +55,21 @@ fn follow(w: &[u32], m: usize, list: Slot, key: Key, from: Visitor) -> Option<Wa
 {
     let mut u = from;
     loop {
-        let to = arena::word(w, u.base + arena::NEXT);
-        if to == Slot::NONE.0 {
+        let to = Slot(arena::word(w, u.base + arena::NEXT));
+        if to == Slot::NONE {
             return Some(Walked::Missing(u));
         }
         if u.left == 0 {
             return None;
         }
-        u.left = u.left - 1;
-        let next = Slot(to);
-        let there = arena::base_of(m, next);
+        u.left -= 1;
+        let there = arena::base_of(m, to);
         let met = arena::key_in(w, there);
         if arena::below(key, met) {
             return Some(Walked::Missing(u));
         }
-        let rank = u.rank.plus(1);
-        u.rank = rank;
-        u.slot = next;
+        u.rank = u.rank.plus(1);
+        u.slot = to;
         u.base = there;
         if arena::same(key, met) {
             return Some(Walked::Found(u));
