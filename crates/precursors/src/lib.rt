@@ -45,11 +45,9 @@ impl Tracer {
     fn stop(self, outcome: Outcome) -> Stop
         ensures { (result.slot ≡ self.slot) × (result.rank ≡ self.rank) × (result.outcome ≡ outcome) }
     {
-        let slot = self.slot;
-        let rank = self.rank;
         Stop {
-            slot,
-            rank,
+            slot: self.slot,
+            rank: self.rank,
             outcome,
         }
     }

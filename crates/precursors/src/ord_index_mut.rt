@@ -11,10 +11,7 @@ fn goes_below(w: &[u32], m: usize, to: Slot, key: Key) -> bool
     requires { Readable w.now m to.0 }
     ensures { Decides result (GoesBelow w.now m key to.0) }
 {
-    if to.0 == Slot::NONE.0 {
-        return false;
-    }
-    arena::below(arena::key_at(w, m, to), key)
+    to != Slot::NONE && arena::below(arena::key_at(w, m, to), key)
 }
 
 // Below level 0, by next, and stopped before the first key that is not smaller.
@@ -25,7 +22,7 @@ fn trace_next(w: &[u32], m: usize, list: Slot, key: Key, from: Tracer) -> Stop
     let mut v = from;
     loop {
         let next = Slot(arena::cell(w, m, v.slot, arena::NEXT));
-        if next.0 == Slot::NONE.0 {
+        if next == Slot::NONE {
             return v.stop(Outcome::Missing);
         }
         let met = arena::key_at(w, m, next);
@@ -35,11 +32,10 @@ fn trace_next(w: &[u32], m: usize, list: Slot, key: Key, from: Tracer) -> Stop
         if arena::same(key, met) {
             return v.stop(Outcome::Found);
         }
-        if next.0 == v.bound.0 {
+        if next == v.bound {
             return v.stop(Outcome::Violation);
         }
-        let rank = v.rank.plus(1);
-        v.rank = rank;
+        v.rank = v.rank.plus(1);
         v.slot = next;
     }
 }
@@ -48,13 +44,14 @@ fn trace_next(w: &[u32], m: usize, list: Slot, key: Key, from: Tracer) -> Stop
 fn trail(slots: [Slot; 16], ranks: [Rank; 16], s: Stop) -> Trail
     ensures { Joined slots ranks s result }
 {
-    let end = s.slot;
-    let path = Path { slots, ranks, end };
-    let outcome = s.outcome;
     Trail {
-        path,
+        path: Path {
+            slots,
+            ranks,
+            end: s.slot,
+        },
         place: s.rank.after(),
-        outcome,
+        outcome: s.outcome,
     }
 }
 
@@ -72,24 +69,20 @@ pub fn find(w: &[u32], m: usize, list: Slot, key: Key) -> Trail
     };
     let mut base = arena::base_of(m, list);
     let mut stage = m;
+    // No `for`: a turn goes along a stage or down to the next, so that no count of turns stands before.
     while 0 < stage {
         let to = arena::target_in(w, base, stage);
         if !goes_below(w, m, to, key) {
+            stage -= 1;
+            slots[stage] = v.slot;
+            ranks[stage] = v.rank;
             v.bound = to;
-            let l = stage - 1;
-            let at = v.slot;
-            let rank = v.rank;
-            slots[l] = at;
-            ranks[l] = rank;
-            stage = l;
             continue;
         }
-        if to.0 == v.bound.0 {
+        if to == v.bound {
             return trail(slots, ranks, v.stop(Outcome::Violation));
         }
-        let far = arena::distance_in(w, base, stage);
-        let rank = v.rank.plus(far);
-        v.rank = rank;
+        v.rank = v.rank.plus(arena::distance_in(w, base, stage));
         v.slot = to;
         base = arena::base_of(m, to);
     }

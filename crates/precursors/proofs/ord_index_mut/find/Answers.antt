@@ -1,7 +1,6 @@
 -- `precursors::ord_index_mut::find` meets its contract.
 -- The invariant: the walk stands no further than the number of smaller keys, and the precursors of the levels above are noted. The measure: stages
 -- and ranks left.
-use Prim.Native.Nat.{◌-◌}
 use mathlib.Core.Path.{refl, ◌∙◌}
 use native.Mathlib.Omega.{arith}
 use Rattle.arena.proofs.Deciding.{yes, no}
@@ -37,17 +36,17 @@ loop-stage-preserved-then-not-goes_below c =
       noted_more z (stops_here inv.0 to n).sought inv.2,
     )
 
-pub distance_in-far-requires : goal.distance_in-far-requires
-distance_in-far-requires c =
+pub distance_in-requires : goal.distance_in-requires
+distance_in-requires c =
     let z = c.loop-stage-test.true in
     (z, (link_here c.loop-stage.invariant.0.stands c.loop-stage.invariant.1 z).inside)
 
-pub plus-rank-requires : goal.plus-rank-requires
-plus-rank-requires c =
+pub plus-v-requires : goal.plus-v-requires
+plus-v-requires c =
     let inv = c.loop-stage.invariant in
     let k = link_here inv.0.stands inv.1 c.loop-stage-test.true in
     let y = yes c.goes_below.ensures c.if-not-goes_below.false in
-    let there = goes_there inv.0 (c.target_in-to.ensures ∙ k.target) y (c.distance_in-far.ensures ∙ k.distance) refl in
+    let there = goes_there inv.0 (c.target_in-to.ensures ∙ k.target) y (c.distance_in.ensures ∙ k.distance) refl in
     omega (arith, length_most there, there.owner.within)
 
 pub loop-stage-smaller : goal.loop-stage-smaller
@@ -56,14 +55,14 @@ loop-stage-smaller c =
     let k = link_here inv.0.stands inv.1 c.loop-stage-test.true in
     let to = c.target_in-to.ensures ∙ k.target in
     let y = yes c.goes_below.ensures c.if-not-goes_below.false in
-    let d = c.distance_in-far.ensures ∙ k.distance in
-    let there = goes_there inv.0 to y d c.plus-rank.ensures in
-    omega (arith, length_most there, there.owner.within, c.plus-rank.ensures, d, far_on inv.0 to y)
+    let d = c.distance_in.ensures ∙ k.distance in
+    let there = goes_there inv.0 to y d c.plus-v.ensures in
+    omega (arith, length_most there, there.owner.within, c.plus-v.ensures, d, far_on inv.0 to y)
 
 pub loop-stage-preserved : goal.loop-stage-preserved
 loop-stage-preserved c =
     let inv = c.loop-stage.invariant in
     let k = link_here inv.0.stands inv.1 c.loop-stage-test.true in
     let y = yes c.goes_below.ensures c.if-not-goes_below.false in
-    let there = goes_there inv.0 (c.target_in-to.ensures ∙ k.target) y (c.distance_in-far.ensures ∙ k.distance) c.plus-rank.ensures in
+    let there = goes_there inv.0 (c.target_in-to.ensures ∙ k.target) y (c.distance_in.ensures ∙ k.distance) c.plus-v.ensures in
     (record { stands = there; bound = inv.0.bound }, c.base_of-base-in-loop-stage.ensures, inv.2)
