@@ -1,4 +1,5 @@
-// The names of a call script's items as `script_line` reads them: five bits a letter, a = 1, the first letter highest.
+// The names of a call script's items as `script_line` reads them: five bits a letter, a = 1, the first letter highest (`Spelled` spells each of them).
+// Numbers and not letters: a match on byte strings, as `(b"insert", 3)`, was tried, and its proof didn't close.
 pub const NEW: u64 = 14519;
 
 pub const WORDS: u64 = 24627347;
