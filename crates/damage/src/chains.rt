@@ -1,148 +1,116 @@
 // The clauses of the chains: their lengths and ends, the last nodes, the keys, each node slot once, the free chain. Where the other clauses need
 // it, more words than one are changed.
-use super::arenas::{
-    NONE, PAST, full_sample, lose, put, put_link, put_word, sample, with, with_header,
-};
+use super::arenas::Change::{Full, Header, Link, Lost, Shared, Word};
+use super::arenas::{NONE, PAST};
 use super::telling::{Clause, Line};
+use arena::{COUNT, FIRST_FREE_WORD, FREE_WORD, HEIGHT, KEY, LAST, NEXT};
+use std::io;
 
 // The numbers of free slots and of nodes don't add up to C, but for the exchanged lengths.
-pub fn steps(line: Line) -> Line {
-    let line = line.of(Clause::Chain);
-    let line = with(line, b"list 0 says 5 and has 4 nodes", 0, arena::COUNT, 5);
-    let line = with(line, b"list 0 says 3 and has 4 nodes", 0, arena::COUNT, 3);
-    let mut w = sample();
-    put(&mut w, 0, arena::COUNT, 2);
-    put(&mut w, 1, arena::COUNT, 4);
-    let line = line.said(
-        b"the lengths of lists 0 and 1 exchanged, so that the counts add up to C",
-        &w,
-    );
-    let line = with(line, b"list 0 goes round in slot 6", 6, arena::NEXT, 6);
-    let line = with(line, b"list 0 goes on past the slots", 6, arena::NEXT, PAST);
-    let line = with(
-        line,
-        b"list 2, which is empty, begins past the slots",
-        2,
-        arena::NEXT,
-        PAST,
-    );
+pub fn steps<R: Print>(line: &mut Line<'_, R>) -> io::Result<()> {
+    line.begin(Clause::Chain);
+    line.tell_each(&[
+        ("list 0 says 5 and has 4 nodes", &[Word(0, COUNT, 5)]),
+        ("list 0 says 3 and has 4 nodes", &[Word(0, COUNT, 3)]),
+        (
+            "the lengths of lists 0 and 1 exchanged, so that the counts add up to C",
+            &[Word(0, COUNT, 2), Word(1, COUNT, 4)],
+        ),
+        ("list 0 goes round in slot 6", &[Word(6, NEXT, 6)]),
+        ("list 0 goes on past the slots", &[Word(6, NEXT, PAST)]),
+        (
+            "list 2, which is empty, begins past the slots",
+            &[Word(2, NEXT, PAST)],
+        ),
+    ])?;
     through_head(line)
 }
 
 // Head 2 stands last in list 1, where its length 0 is read as a key and its M as a height: keys and links are as these need.
-fn through_head(line: Line) -> Line {
-    let mut w = sample();
-    put(&mut w, 1, arena::COUNT, 3);
-    put(&mut w, 1, arena::LAST, 2);
-    put(&mut w, 4, arena::KEY, 0);
-    put(&mut w, 10, arena::KEY, 0);
-    put(&mut w, 10, arena::NEXT, 2);
-    put_link(&mut w, 1, 1, 2, 3);
-    put_link(&mut w, 10, 0, 2, 1);
-    line.said(b"list 1 goes on to head 2", &w)
+fn through_head<R: Print>(line: &mut Line<'_, R>) -> io::Result<()> {
+    line.tell_each(&[(
+        "list 1 goes on to head 2",
+        &[
+            Word(1, COUNT, 3),
+            Word(1, LAST, 2),
+            Word(4, KEY, 0),
+            Word(10, KEY, 0),
+            Word(10, NEXT, 2),
+            Link(1, 1, 2, 3),
+            Link(10, 0, 2, 1),
+        ],
+    )])
 }
 
-pub fn last_nodes(line: Line) -> Line {
-    let line = line.of(Clause::LastNode);
-    let line = with(
-        line,
-        b"list 0 names slot 8, which comes before",
-        0,
-        arena::LAST,
-        8,
-    );
-    let line = with(line, b"list 1 names slot 6, of list 0", 1, arena::LAST, 6);
-    let line = with(line, b"list 0 names none", 0, arena::LAST, NONE);
-    with(
-        line,
-        b"list 2, which is empty, names slot 6",
-        2,
-        arena::LAST,
-        6,
-    )
+pub fn last_nodes<R: Print>(line: &mut Line<'_, R>) -> io::Result<()> {
+    line.begin(Clause::LastNode);
+    line.tell_each(&[
+        (
+            "list 0 names slot 8, which comes before",
+            &[Word(0, LAST, 8)],
+        ),
+        ("list 1 names slot 6, of list 0", &[Word(1, LAST, 6)]),
+        ("list 0 names none", &[Word(0, LAST, NONE)]),
+        ("list 2, which is empty, names slot 6", &[Word(2, LAST, 6)]),
+    ])
 }
 
-pub fn keys(line: Line) -> Line {
-    let line = line.of(Clause::Keys);
-    let line = with(line, b"9 in slot 3, after 10", 3, arena::KEY, 9);
-    let line = with(line, b"19 in slot 8, after 20", 8, arena::KEY, 19);
-    with(line, b"0 in slot 6, after 20", 6, arena::KEY, 0)
+pub fn keys<R: Print>(line: &mut Line<'_, R>) -> io::Result<()> {
+    line.begin(Clause::Keys);
+    line.tell_each(&[
+        ("9 in slot 3, after 10", &[Word(3, KEY, 9)]),
+        ("19 in slot 8, after 20", &[Word(8, KEY, 19)]),
+        ("0 in slot 6, after 20", &[Word(6, KEY, 0)]),
+    ])
 }
 
-// The end of list 0 becomes list 2.
-fn share(w: &mut [u32]) {
-    put(w, 2, arena::COUNT, 1);
-    put(w, 2, arena::NEXT, 6);
-    put(w, 2, arena::LAST, 6);
-    put_link(w, 2, 0, 6, 1);
-}
-
-pub fn each_slot(line: Line) -> Line {
-    let line = line.of(Clause::EachSlot);
-    let mut w = sample();
-    share(&mut w);
-    let line = line.said(b"slot 6 is in lists 0 and 2", &w);
-    lose(&mut w);
-    let line = line.said(
-        b"slot 6 is in lists 0 and 2, slot 11 in none, so that the counts add up to C",
-        &w,
-    );
+pub fn each_slot<R: Print>(line: &mut Line<'_, R>) -> io::Result<()> {
+    line.begin(Clause::EachSlot);
+    line.tell_each(&[
+        ("slot 6 is in lists 0 and 2", &[Shared]),
+        (
+            "slot 6 is in lists 0 and 2, slot 11 in none, so that the counts add up to C",
+            &[Shared, Lost],
+        ),
+    ])?;
     lost(line)
 }
 
 // A slot that is in no list and not free has no column, so either form will do. Its number is missing: where all chains and counts are right and add
-// up to C no slot can be lost.
-fn lost(line: Line) -> Line {
-    let mut w = sample();
-    lose(&mut w);
-    let line = line.said(
-        b"slot 11 is in no list and not free, in a free node's form",
-        &w,
-    );
-    put(&mut w, 11, arena::KEY, 15);
-    put(&mut w, 11, arena::HEIGHT, 0);
-    let line = line.said(
-        b"slot 11 is in no list and not free, in the form of a node in a list",
-        &w,
-    );
-    twice(line)
+// up to C no slot can be lost. No record has the forms of both columns, so in the last case that clause breaks with this one.
+fn lost<R: Print>(line: &mut Line<'_, R>) -> io::Result<()> {
+    line.tell_each(&[
+        (
+            "slot 11 is in no list and not free, in a free node's form",
+            &[Lost],
+        ),
+        (
+            "slot 11 is in no list and not free, in the form of a node in a list",
+            &[Lost, Word(11, KEY, 15), Word(11, HEIGHT, 0)],
+        ),
+        (
+            "slot 10 is in list 1 and free, slot 11 in none, so that the counts add up to C",
+            &[Word(7, NEXT, 10)],
+        ),
+    ])
 }
 
-// No record has the forms of both columns, so that clause breaks with this one.
-fn twice(line: Line) -> Line {
-    let mut w = sample();
-    put(&mut w, 7, arena::NEXT, 10);
-    line.said(
-        b"slot 10 is in list 1 and free, slot 11 in none, so that the counts add up to C",
-        &w,
-    )
-}
-
-pub fn free_chain(line: Line) -> Line {
-    let line = line.of(Clause::FreeChain);
-    let line = with_header(line, b"2 stated, 3 on it", arena::FREE_WORD, 2);
-    let line = with_header(line, b"4 stated, 3 on it", arena::FREE_WORD, 4);
-    let line = with_header(line, b"0 stated, 3 on it", arena::FREE_WORD, 0);
-    let line = with(
-        line,
-        b"goes round from slot 11 to slot 9",
-        11,
-        arena::NEXT,
-        9,
-    );
-    let line = with(line, b"goes on past the slots", 11, arena::NEXT, PAST);
-    let mut w = sample();
-    put(&mut w, 11, arena::NEXT, 2);
-    put_word(&mut w, arena::FREE_WORD, 4);
-    let line = line.said(b"4 stated, the fourth is head 2", &w);
-    no_free_slot(line)
-}
-
-fn no_free_slot(line: Line) -> Line {
-    let mut w = full_sample();
-    put_word(&mut w, arena::FREE_WORD, 1);
-    let line = line.said(b"1 stated, none on it", &w);
-    put_word(&mut w, arena::FREE_WORD, 0);
-    put_word(&mut w, arena::FIRST_FREE_WORD, PAST);
-    line.said(b"0 stated, begins past the slots", &w)
+pub fn free_chain<R: Print>(line: &mut Line<'_, R>) -> io::Result<()> {
+    line.begin(Clause::FreeChain);
+    line.tell_each(&[
+        ("2 stated, 3 on it", &[Header(FREE_WORD, 2)]),
+        ("4 stated, 3 on it", &[Header(FREE_WORD, 4)]),
+        ("0 stated, 3 on it", &[Header(FREE_WORD, 0)]),
+        ("goes round from slot 11 to slot 9", &[Word(11, NEXT, 9)]),
+        ("goes on past the slots", &[Word(11, NEXT, PAST)]),
+        (
+            "4 stated, the fourth is head 2",
+            &[Word(11, NEXT, 2), Header(FREE_WORD, 4)],
+        ),
+        ("1 stated, none on it", &[Full, Header(FREE_WORD, 1)]),
+        (
+            "0 stated, begins past the slots",
+            &[Full, Header(FIRST_FREE_WORD, PAST)],
+        ),
+    ])
 }

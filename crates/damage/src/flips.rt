@@ -2,69 +2,49 @@
 ghost use Rattle.std.specs.Prelude.{◌≤◌};
 
 use super::arenas::{WIDTH, WORDS, sample};
-use super::telling::{number, tell};
+use std::io;
 
 // Whether the sample with bit b of one word flipped passes.
 fn passes(at: usize, b: u32) -> bool {
+    if at >= WORDS || b >= 32 {
+        return false;
+    }
     let mut w = sample();
-    if at >= WORDS {
-        return false;
-    }
-    if b >= 32 {
-        return false;
-    }
-    w[at] = w[at] ^ (1 << b);
+    w[at] ^= 1 << b;
     arena_check::check(&w)
 }
 
 // The flips of one word that pass.
-fn over_bits(at: usize) -> u32
+fn over_bits(at: usize) -> usize
     ensures { result ≤ 32 }
 {
-    let mut n: u32 = 0;
-    let mut b: u32 = 0;
-    while b < 32 {
-        if passes(at, b) {
-            n += 1;
-        }
-        b += 1;
-    }
-    n
+    (0..32).filter(|b| passes(at, *b)).count()
 }
 
 // Prints where a word stands and how many of its flips pass, if any do.
-fn told(at: usize, n: u32) {
-    if 0 < n {
-        tell(b"flips of word ");
-        io::print_decimal(1, at as u64);
-        if arena::HEADER <= at {
-            tell(b", word ");
-            io::print_decimal(1, ((at - arena::HEADER) % WIDTH) as u64);
-            tell(b" of slot ");
-            io::print_decimal(1, ((at - arena::HEADER) / WIDTH) as u64);
-        }
-        tell(b": ");
-        number(n);
-        tell(b" of 32 pass\n");
+fn tell(rt: &impl Print, at: usize, n: usize) -> io::Result<()> {
+    if n == 0 {
+        return Ok(());
     }
-}
-
-// The flips of all words that pass.
-fn over_words() -> u32 {
-    let mut total: u32 = 0;
-    let mut at: usize = 0;
-    while at < WORDS {
-        let n = over_bits(at);
-        told(at, n);
-        total += n;
-        at += 1;
+    print!(rt; "flips of word {at}")?;
+    if arena::HEADER <= at {
+        let of_records = at - arena::HEADER;
+        print!(rt;
+            ", word {} of slot {}",
+            of_records % WIDTH,
+            of_records / WIDTH
+        )?;
     }
-    total
+    println!(rt; ": {n} of 32 pass")
 }
 
 // Every word whose flips pass is a key of a list, and a flip passes where the keys stay in order.
-pub fn all() {
-    let passed = over_words();
-    number(passed);
-    tell(b" of 3328 flips of one bit pass, all in keys, which stay in order\n");
+pub fn all(rt: &impl Print) -> io::Result<()> {
+    let mut total = 0;
+    for at in 0..WORDS {
+        let n = over_bits(at);
+        tell(rt, at, n)?;
+        total += n;
+    }
+    println!(rt; "{total} of 3328 flips of one bit pass, all in keys, which stay in order")
 }

@@ -9,42 +9,50 @@ mod records;
 mod sizes;
 mod telling;
 
+use arenas::Change::Full;
+use std::io;
 use telling::Line;
 
-fn whole(line: Line) -> Line {
-    let w = arenas::sample();
-    let line = line.said(b"three lists, list 2 empty, and three free slots", &w);
-    let w = arenas::full_sample();
-    line.said(b"the first one with its free slots in list 2", &w)
+fn whole<R: Print>(line: &mut Line<'_, R>) -> io::Result<()> {
+    line.tell_each(&[
+        ("three lists, list 2 empty, and three free slots", &[]),
+        ("the first one with its free slots in list 2", &[Full]),
+    ])
 }
 
-fn sizes_broken(line: Line) -> Line {
-    let line = sizes::lengths(line);
-    let line = sizes::headers(line);
-    let line = sizes::lists(line);
-    let line = sizes::levels(line);
-    let line = sizes::nodes(line);
+fn sizes_broken<R: Print>(line: &mut Line<'_, R>) -> io::Result<()> {
+    sizes::lengths(line)?;
+    sizes::headers(line)?;
+    sizes::lists(line)?;
+    sizes::levels(line)?;
+    sizes::nodes(line)?;
     sizes::exchanges(line)
 }
 
-fn chains_broken(line: Line) -> Line {
-    let line = chains::steps(line);
-    let line = chains::last_nodes(line);
-    let line = chains::keys(line);
-    let line = chains::each_slot(line);
+fn chains_broken<R: Print>(line: &mut Line<'_, R>) -> io::Result<()> {
+    chains::steps(line)?;
+    chains::last_nodes(line)?;
+    chains::keys(line)?;
+    chains::each_slot(line)?;
     chains::free_chain(line)
 }
 
-fn records_broken(line: Line) -> Line {
-    let line = records::forms(line);
-    let line = records::links(line);
+fn records_broken<R: Print>(line: &mut Line<'_, R>) -> io::Result<()> {
+    records::forms(line)?;
+    records::links(line)?;
     records::above(line)
 }
 
-fn main() {
-    let line = whole(Line::first());
-    let line = sizes_broken(line);
-    let line = chains_broken(line);
-    records_broken(line);
-    flips::all();
+fn run(rt: &(impl Print + Drop)) -> io::Result<()> {
+    let mut line = Line::first(rt);
+    whole(&mut line)?;
+    sizes_broken(&mut line)?;
+    chains_broken(&mut line)?;
+    records_broken(&mut line)?;
+    flips::all(rt)
+}
+
+// Where a line cannot be written the run ends; its status is 0 then too.
+fn main(rt: HostRuntime) {
+    let _ = run(&rt);
 }

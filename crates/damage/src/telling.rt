@@ -1,6 +1,6 @@
 // A case as a line: its number, the clause of document 01 that is broken, what was broken, and what the check says.
-// Standard output.
-const STDOUT_FILENO: i32 = 1;
+use super::arenas::{Change, changed};
+use std::{fmt, io};
 
 // The clauses of 'An arena passes the check', in its order.
 #[derive(Clone, Copy)]
@@ -18,74 +18,59 @@ pub enum Clause {
     AboveHeight,
 }
 
-impl Clause {
-    fn print(self) {
-        match self {
-            Clause::None => tell(b"no clause"),
-            Clause::Length => tell(b"length"),
-            Clause::Header => tell(b"header"),
-            Clause::Chain => tell(b"chain"),
-            Clause::LastNode => tell(b"last node"),
-            Clause::Keys => tell(b"keys never fall"),
-            Clause::EachSlot => tell(b"each node slot once"),
-            Clause::FreeChain => tell(b"free chain"),
-            Clause::Form => tell(b"column's form"),
-            Clause::Link => tell(b"link"),
-            Clause::AboveHeight => tell(b"links at or above the height"),
-        }
+impl fmt::Display for Clause {
+    fn fmt<W: fmt::Write>(&self, f: &mut fmt::Formatter<W>) -> fmt::Result {
+        f.write_str(match self {
+            Clause::None => "no clause",
+            Clause::Length => "length",
+            Clause::Header => "header",
+            Clause::Chain => "chain",
+            Clause::LastNode => "last node",
+            Clause::Keys => "keys never fall",
+            Clause::EachSlot => "each node slot once",
+            Clause::FreeChain => "free chain",
+            Clause::Form => "column's form",
+            Clause::Link => "link",
+            Clause::AboveHeight => "links at or above the height",
+        })
     }
 }
 
 // The number of the next case, and its clause.
-#[derive(Clone, Copy)]
-pub struct Line {
+#[derive(Drop)]
+pub struct Line<'a, R: Print> {
+    rt: &'a R,
     number: u32,
     clause: Clause,
 }
 
-impl Line {
-    pub fn first() -> Line {
+impl<'a, R: Print> Line<'a, R> {
+    pub fn first(rt: &'a R) -> Self {
         Line {
+            rt,
             number: 1,
             clause: Clause::None,
         }
     }
 
     // From here on the cases break this clause.
-    pub fn of(self, clause: Clause) -> Line {
-        Line {
-            number: self.number,
-            clause,
-        }
+    pub fn begin(&mut self, clause: Clause) {
+        self.clause = clause;
     }
 
-    pub fn said(self, what: &[u8], w: &[u32]) -> Line {
+    pub fn tell(&mut self, what: &str, w: &[u32]) -> io::Result<()> {
+        let number = self.number;
         let clause = self.clause;
-        number(self.number);
-        tell(b" ");
-        clause.print();
-        tell(b": ");
-        tell(what);
-        answer(arena_check::check(w));
-        Line {
-            number: std::num::wrapping_add_u32(self.number, 1),
-            clause,
+        let answer = if arena_check::check(w) { "yes" } else { "no" };
+        self.number = number.wrapping_add(1);
+        println!(self.rt; "{number} {clause}: {what}: {answer}")
+    }
+
+    // Cases that are the sample with some changes.
+    pub fn tell_each(&mut self, cases: &[(&str, &[Change])]) -> io::Result<()> {
+        for (what, changes) in cases {
+            self.tell(what, &changed(changes))?;
         }
+        Ok(())
     }
-}
-
-fn answer(passes: bool) {
-    if passes {
-        tell(b": yes\n");
-    } else {
-        tell(b": no\n");
-    }
-}
-
-pub fn number(n: u32) {
-    io::print_decimal(STDOUT_FILENO, n as u64);
-}
-
-pub fn tell(text: &[u8]) {
-    io::write_all(STDOUT_FILENO, text);
 }
