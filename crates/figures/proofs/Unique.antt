@@ -10,24 +10,25 @@ use Rattle.model.specs.Passes.{Passes}
 use Rattle.model.proofs.Unique.{either_way}
 use Rattle.answers.specs.Told.{number_of}
 use Rattle.figures.specs.Figured.{FiguresPromise}
-use Rattle.figures.specs.declared.FiguresAnswer.{FiguresAnswer}
-use Rattle.figures.specs.declared.FiguresAnswer.TheVariants.{Are, Refused}
+use Rattle.std.specs.Prelude.{Result, Ok, Err}
+use Rattle.answers.specs.declared.Refusal.{Refusal}
+use Rattle.figures.specs.declared.Figures.{Figures}
 use Rattle.answers.proofs.Numbers.{same_number}
 
 -- an answer as numbers, by which two are told apart
-abbrev told : FiguresAnswer → List ℕ
-told (Are f) = f.count ∷ f.smallest ∷ f.largest ∷ f.lower ∷ f.middle ∷ f.upper ∷ []
-told (Refused r) = number_of r ∷ []
+abbrev told : Result Figures Refusal → List ℕ
+told (Ok f) = f.count ∷ f.smallest ∷ f.largest ∷ f.lower ∷ f.middle ∷ f.upper ∷ []
+told (Err r) = number_of r ∷ []
 
-same-told : (r s : FiguresAnswer) → told r ≡ told s → r ≡ s
-same-told (Are f) (Are g) e =
-    let at : (i : ℕ) → get_or (told (Are f)) i 0 ≡ get_or (told (Are g)) i 0 = λ i. ap (λ (l : List ℕ). get_or l i 0) e in
-    λ j. Are (record { count = at 0 j; smallest = at 1 j; largest = at 2 j; lower = at 3 j; middle = at 4 j; upper = at 5 j })
-same-told (Are f) (Refused r) e = absurd (omega (arith, ap length e))
-same-told (Refused r) (Are f) e = absurd (omega (arith, ap length e))
-same-told (Refused r) (Refused s) e = ap Refused (same_number (ap (λ (l : List ℕ). get_or l 0 0) e))
+same-told : (r s : Result Figures Refusal) → told r ≡ told s → r ≡ s
+same-told (Ok f) (Ok g) e =
+    let at : (i : ℕ) → get_or (told (Ok f)) i 0 ≡ get_or (told (Ok g)) i 0 = λ i. ap (λ (l : List ℕ). get_or l i 0) e in
+    λ j. Ok (record { count = at 0 j; smallest = at 1 j; largest = at 2 j; lower = at 3 j; middle = at 4 j; upper = at 5 j })
+same-told (Ok f) (Err r) e = absurd (omega (arith, ap length e))
+same-told (Err r) (Ok f) e = absurd (omega (arith, ap length e))
+same-told (Err r) (Err s) e = ap Err (same_number (ap (λ (l : List ℕ). get_or l 0 0) e))
 
-pub figures_unique : {a : ℕ} {w : List ℕ} {r s : FiguresAnswer} → FiguresPromise a w r → FiguresPromise a w s → r ≡ s
+pub figures_unique : {a : ℕ} {w : List ℕ} {r s : Result Figures Refusal} → FiguresPromise a w r → FiguresPromise a w s → r ≡ s
 figures_unique {w = w} {r} {s} p q =
     same-told r s
     (either_way (List-discrete ℕ_discrete) (Passes w)

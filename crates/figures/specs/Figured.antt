@@ -1,13 +1,12 @@
 -- Request K1: the figures of a list, and what the call that gives them promises. Rests on model's Nodes, Lists, Arena and Passes.
-use Rattle.std.specs.Prelude.{ℕ, ◌-◌, ◌*◌, ◌/◌, ◌≡◌, cond, List, ltb, length}
+use Rattle.std.specs.Prelude.{ℕ, ◌-◌, ◌*◌, ◌/◌, ◌≡◌, cond, List, ltb, length, Result, Ok, Err}
 use Rattle.model.specs.Nodes.{Node, key_at}
 use Rattle.model.specs.Lists.{middle_of}
 use Rattle.model.specs.Arena.{State, list_of}
 use Rattle.model.specs.Passes.{decode, Passes}
+use Rattle.answers.specs.declared.Refusal.{Refusal}
 use Rattle.answers.specs.declared.Refusal.TheVariants.{Broken, NoList}
 use Rattle.figures.specs.declared.Figures.{Figures}
-use Rattle.figures.specs.declared.FiguresAnswer.{FiguresAnswer}
-use Rattle.figures.specs.declared.FiguresAnswer.TheVariants.{Are, Refused}
 
 -- "the keys at indexes floor(q(n-1)/4)".
 abbrev pub quarter : ℕ → List Node → ℕ
@@ -27,9 +26,9 @@ figures_of xs =
     }
 
 -- "1: the arena doesn't pass the check"; "3: a list number is L or more".
-abbrev pub figures_in : State → ℕ → FiguresAnswer
-figures_in S a = cond (ltb a (length S.lists)) (Are (figures_of (list_of S a))) (Refused NoList)
+abbrev pub figures_in : State → ℕ → Result Figures Refusal
+figures_in S a = cond (ltb a (length S.lists)) (Ok (figures_of (list_of S a))) (Err NoList)
 
-pub record FiguresPromise (a : ℕ) (w : List ℕ) (r : FiguresAnswer) : Type 0 where
-  pub broken : ¬ Passes w → r ≡ Refused Broken
+pub record FiguresPromise (a : ℕ) (w : List ℕ) (r : Result Figures Refusal) : Type 0 where
+  pub broken : ¬ Passes w → r ≡ Err Broken
   pub whole : Passes w → r ≡ figures_in (decode w) a

@@ -6,10 +6,10 @@ ghost use Rattle.model.specs.Passes.{nodes};
 ghost use Rattle.arena.specs.Owners.{Listed};
 ghost use Rattle.figures.specs.Figured.{figures_of, quarter, FiguresPromise};
 
-use answers::{Named, Refusal};
+use answers::Refusal;
 use arena::{Index, Slot};
 
-#[derive(Clone, Copy)]
+#[derive(Clone, Copy, PartialEq, Eq, Default)]
 pub struct Figures {
     pub count: u32,
     pub smallest: u32,
@@ -17,12 +17,6 @@ pub struct Figures {
     pub lower: u32,
     pub middle: u64, // twice the median
     pub upper: u32,
-}
-
-#[derive(Clone, Copy)]
-pub enum FiguresAnswer {
-    Are(Figures),
-    Refused(Refusal),
 }
 
 // The key at index floor(q(n-1)/4) of a list of n keys.
@@ -40,41 +34,25 @@ pub fn of(w: &[u32], m: usize, list: Slot) -> Figures
     ensures value { result ≡ figures_of (nodes w.now list.0) }
     ensures middle_bound { result.middle ≤ 2 * 4294967295 }
 {
-    let n = rank_walk::length(w, m, list);
-    if n == 0 {
-        return Figures {
-            count: 0,
-            smallest: 0,
-            largest: 0,
-            lower: 0,
-            middle: 0,
-            upper: 0,
-        };
+    let count = rank_walk::length(w, m, list);
+    if count == 0 {
+        return Figures::default();
     }
-    let smallest = rank_walk::read(w, m, list, Index(0));
-    let largest = rank_walk::read(w, m, list, Index(n - 1));
-    let lower = quarter(w, m, list, n, 1);
-    let middle = middle::middle(w, m, list);
-    let upper = quarter(w, m, list, n, 3);
     Figures {
-        count: n,
-        smallest,
-        largest,
-        lower,
-        middle,
-        upper,
+        count,
+        smallest: rank_walk::read(w, m, list, Index(0)),
+        largest: rank_walk::read(w, m, list, Index(count - 1)),
+        lower: quarter(w, m, list, count, 1),
+        middle: middle::middle(w, m, list),
+        upper: quarter(w, m, list, count, 3),
     }
 }
 
 // The figures of a list, for any words and any list number: the check is asked first, then whether the list is there.
-pub fn answer(w: &[u32], list: Slot) -> FiguresAnswer
+pub fn answer(w: &[u32], list: Slot) -> Result<Figures, Refusal>
     ensures { FiguresPromise list.0 w.now result }
 {
-    if !arena_check::check(w) {
-        return FiguresAnswer::Refused(Refusal::Broken);
-    }
-    match answers::one_list(w, list) {
-        Named::Levels(m) => FiguresAnswer::Are(of(w, m, list)),
-        Named::Refused(r) => FiguresAnswer::Refused(r),
-    }
+    answers::passed(arena_check::check(w))?;
+    let m = answers::one_list(w, list)?;
+    Ok(of(w, m, list))
 }

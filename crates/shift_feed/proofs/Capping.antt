@@ -1,17 +1,16 @@
 -- A desk that counts no further than a u64 goes on as one that counts all lines, and calls that go on one after the other. Rests on Feeds.
-use Prim.Native.Nat.{ℕ, suc, ◌+◌, ◌≤◌, ◌<◌}
+use Prim.Native.Nat.{ℕ, suc, ◌+◌, ◌≤◌, min}
 use mathlib.Core.Path.{◌≡◌, refl, sym, ap, ◌∙◌, subst}
 use mathlib.Core.Bool.{Bool, true, false, cond}
 use mathlib.Core.List.{List, [], ◌∷◌}
 use lib.Dec.{eqb}
 use native.Mathlib.Omega.{arith}
-use Rattle.model.specs.Slices.{Held, Holds, reply, held}
+use Rattle.model.specs.Slices.{Holds, reply, held}
 use Rattle.model.proofs.Tests.{test, hit, miss}
 use Rattle.shift_line.specs.declared.Line.{Line}
-use Rattle.shift_line.specs.declared.Part.{Part}
-use Rattle.shift_line.specs.declared.Part.TheVariants.{Nothing, ListDigits, Space, KeyDigits, Spoilt}
-use Rattle.shift_line.specs.declared.Entry.{Entry}
-use Rattle.shift_line.specs.declared.Entry.TheVariants.{Reading, Unread}
+use Rattle.shift_line.specs.declared.Line.TheVariants.{Nothing, ListDigits, Space, KeyDigits, Spoilt}
+use Rattle.std.specs.Prelude.{Option, Some, None}
+use Rattle.shift_line.specs.declared.Reading.{Reading}
 use Rattle.shift_line.specs.Reads.{blank, stepped, entry_of}
 use Rattle.shift_feed.specs.declared.Desk.{Desk}
 use Rattle.shift_feed.specs.Shifts.{Shift, inserting, accepted, taken}
@@ -21,11 +20,9 @@ use Rattle.shift_feed.specs.Feeds.{Midway, end_line, fed_byte, fed, ended_in, en
 pub capped-within : (n : ℕ) → n ≤ 18446744073709551615 → capped n ≡ n
 capped-within n h = elim (test n 18446744073709551615) [ hit e p ↦ rw e refl | miss e p ↦ omega arith ]
 
-pub capped_more : (n : ℕ) → n < 18446744073709551615 → n + 1 ≡ capped (suc n)
-capped_more n h = let e : n + 1 ≡ suc n = omega arith in e ∙ sym (capped-within (suc n) (omega arith))
-
-pub capped-full : (n : ℕ) → n ≡ 18446744073709551615 → n ≡ capped (suc n)
-capped-full n h = rw h refl
+-- one line more, as saturating_add counts it
+pub capped_more : (n : ℕ) → min (n + 1) 18446744073709551615 ≡ capped (suc n)
+capped_more n = elim (test (suc n) 18446744073709551615) [ hit e p ↦ rw e (omega arith) | miss e p ↦ rw e (omega arith) ]
 
 capped_again : (n : ℕ) → capped (capped n) ≡ capped n
 capped_again n = elim (test n 18446744073709551615) [ hit e p ↦ rw (e, e) refl | miss e p ↦ rw e refl ]
@@ -46,9 +43,9 @@ cap s = record { shift = cap_shift s.shift; line = s.line }
 abbrev pub Stable : (Midway → Midway) → Type 0
 Stable to = (s : Midway) → cap (to (cap s)) ≡ cap (to s)
 
-taken-capped : (s : Shift) (e : Entry) → cap_shift (taken (cap_shift s) e) ≡ cap_shift (taken s e)
-taken-capped s Unread = ap (λ n. record { held = s.held; skipped = n }) (capped-suc s.skipped)
-taken-capped s (Reading l k) = ap (λ n. record { held = held s.held (inserting l k); skipped = n }) (by (accepted (reply s.held (inserting l k))))
+taken-capped : (s : Shift) (e : Option Reading) → cap_shift (taken (cap_shift s) e) ≡ cap_shift (taken s e)
+taken-capped s None = ap (λ n. record { held = s.held; skipped = n }) (capped-suc s.skipped)
+taken-capped s (Some r) = ap (λ n. record { held = held s.held (inserting r.list r.key); skipped = n }) (by (accepted (reply s.held (inserting r.list r.key))))
   where
     by : (b : Bool) → capped (cond b (capped s.skipped) (suc (capped s.skipped))) ≡ capped (cond b s.skipped (suc s.skipped))
     by true = capped_again s.skipped
@@ -78,13 +75,13 @@ fed-stable (b ∷ bs) s =
     ∙ fed-stable bs (fed_byte s b)
 
 pub ended-stable : Stable ended
-ended-stable s = by s.line.part
+ended-stable s = by s.line
   where
-    by : (p : Part) → cap (ended_in p (cap s)) ≡ cap (ended_in p s)
+    by : (line : Line) → cap (ended_in line (cap s)) ≡ cap (ended_in line s)
     by Nothing = fed-stable [] s
-    by ListDigits = end-stable s
-    by Space = end-stable s
-    by KeyDigits = end-stable s
+    by (ListDigits n) = end-stable s
+    by (Space l) = end-stable s
+    by (KeyDigits l n) = end-stable s
     by Spoilt = end-stable s
 
 -- ---- one call after the other ----

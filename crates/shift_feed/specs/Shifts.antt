@@ -1,10 +1,9 @@
 -- Request K1: what the lines of a shift's text do, over the model's own insert. Rests on shift_line's Lines and model's Slices.
-use Rattle.std.specs.Prelude.{ℕ, suc, Bool, cond, List, [], ◌∷◌, eqb}
+use Rattle.std.specs.Prelude.{ℕ, suc, Bool, cond, List, [], ◌∷◌, eqb, Option, Some, None}
 use Rattle.model.specs.Arena.{set_up}
 use Rattle.model.specs.Calls.{insert_key}
 use Rattle.model.specs.Slices.{Act, calling, Reply, number, verdict, answered, Held, whole, reply, held}
-use Rattle.shift_line.specs.declared.Entry.{Entry}
-use Rattle.shift_line.specs.declared.Entry.TheVariants.{Reading, Unread}
+use Rattle.shift_line.specs.declared.Reading.{Reading}
 use Rattle.shift_line.specs.Lines.{lines_of, parsed}
 
 -- What the slice holds, and how many lines were skipped.
@@ -22,13 +21,13 @@ accepted (verdict b) = b
 accepted (answered r) = eqb r.number 0
 
 -- "A line that doesn't parse, a list number at or above L, or a reading with no room is counted in a last line, always written, and otherwise skipped."
-abbrev pub taken : Shift → Entry → Shift
-taken s (Reading l k) =
+abbrev pub taken : Shift → Option Reading → Shift
+taken s (Some r) =
     record {
-      held = held s.held (inserting l k);
-      skipped = cond (accepted (reply s.held (inserting l k))) s.skipped (suc s.skipped);
+      held = held s.held (inserting r.list r.key);
+      skipped = cond (accepted (reply s.held (inserting r.list r.key))) s.skipped (suc s.skipped);
     }
-taken s Unread = record { held = s.held; skipped = suc s.skipped }
+taken s None = record { held = s.held; skipped = suc s.skipped }
 
 abbrev pub taken_all : Shift → List (List ℕ) → Shift
 taken_all s [] = s

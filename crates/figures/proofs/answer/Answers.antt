@@ -1,8 +1,10 @@
--- `figures::answer` keeps its promise: the check's answer, then row 3's, then the figures.
+-- `figures::answer` keeps its promise where the list is not there: row 3's refusal, on an arena that passes.
+use borrow.Author.Rules.{rules}
+use Rattle.std.proofs.lemmas.Result.{err_from_is_err_and}
 use Rattle.figures.proofs.Promised.{whole, not_there}
 use Rattle.figures.proofs.answer.Goals as goal
 
-pub returns-in-Refused : goal.returns-in-Refused
-returns-in-Refused c =
-    whole c.check.ensures c.if-not-check.false
-    (not_there c.args.w.now c.args.list.0 (rw c.in-Refused.is at c.one_list.ensures))
+pub returns-in_err-m : goal.returns-in_err-m
+returns-in_err-m c =
+    let p = err_from_is_err_and c.from_residual-in_err-m.result c.from_residual-in_err-m.ensures.1 in
+    rw (p.1, p.2) (whole c.check.ensures (search rules) (not_there c.args.w.now c.args.list.0 c.in_err-m.ensures))

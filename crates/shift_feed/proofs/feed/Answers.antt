@@ -1,13 +1,11 @@
--- `shift_feed::feed` meets its contract: after i bytes the call has gone on by them.
-use Prim.Native.Nat.{◌-◌}
-use borrow.Author.Rules.{rules}
+-- `shift_feed::feed` meets its contract: after so many bytes the call has gone on by them.
 use Rattle.shift_feed.proofs.Feeding.{byte-fed, all-fed}
 use Rattle.shift_feed.proofs.feed.Goals as goal
 
-pub loop-i-preserved : goal.loop-i-preserved
-loop-i-preserved c =
-    (byte-fed _ _ c.loop-i-test.true c.loop-i.invariant.0 c.byte-d.ensures.goes, c.byte-d.ensures.check_promise, search rules, cc)
+pub loop-b-preserved : goal.loop-b-preserved
+loop-b-preserved c =
+    (byte-fed _ _ c.loop-b-test.true c.loop-b.invariant.0 c.byte-desk.ensures.goes, c.byte-desk.ensures.check_promise)
 
 pub returns : goal.returns
 returns c =
-    all-fed _ _ c.loop-i-test.false c.loop-i.invariant.0
+    all-fed _ _ c.loop-b-test.false c.loop-b.invariant.0

@@ -1,14 +1,8 @@
--- `shift_feed::feed` meets its contract: after i bytes the call has gone on by them.
-use Prim.Native.Nat.{◌-◌, ◌≤◌}
-use mathlib.Core.Path.{◌≡◌}
-use lib.ListN.{length, take}
+-- `shift_feed::feed` meets its contract: after so many bytes the call has gone on by them.
+use lib.ListN.{take}
 use Rattle.model.specs.Calls.{CheckPromise}
 use Rattle.shift_feed.specs.Feeds.{fed, Goes}
 use Rattle.shift_feed.proofs.feed.Given as goal
 
-abbrev pub invariant-loop-i : goal.invariant-loop-i
-invariant-loop-i l =
-    Goes (λ s. fed s (take l.i l.bytes)) l.initial.d l.initial.w l.w l.d × CheckPromise l.w l.passes × (l.i ≤ length l.bytes) × (length l.w ≡ length l.initial.w)
-
-abbrev pub decreases-loop-i : goal.decreases-loop-i
-decreases-loop-i l = length l.bytes - l.i
+abbrev pub invariant-loop-b : goal.invariant-loop-b
+invariant-loop-b l = Goes (λ s. fed s (take l.b-index l.bytes)) l.initial.desk l.initial.w l.w l.desk × CheckPromise l.w l.passes
