@@ -1,176 +1,99 @@
 // Every answer as document 01's numbers, each told here and nowhere else: for C, for call scripts and for batches.
 #![tactic(auto)]
 
-ghost use Rattle.std.specs.Prelude.{◌≡◌, cond};
-ghost use Rattle.model.specs.Calls.{searched, keyed, refused, beyond};
-ghost use Rattle.setup.specs.Bare.{number_of as setup_number};
+ghost use Rattle.std.specs.Prelude.{ℕ, ◌≡◌, cond, Err};
 ghost use Rattle.link.specs.Distances.{told};
-ghost use Rattle.answers.specs.Told.{number_of, search_told, key_told, middle_told, plain_told};
-ghost use Rattle.numbers.specs.Read.{answer_of, twice_of, distance_of};
+ghost use Rattle.answers.specs.Told.{number_of as refusal_number, search_told};
+ghost use Rattle.numbers.specs.Read.{Tells, answer_of};
 
-use answers::{KeyAnswer, MiddleAnswer, PlainAnswer, Refusal, SearchAnswer};
-use arena::Index;
-use link::Distance;
-use setup::Setup;
-
-// An answer of a call on an arena; 0 where the call has no such answer.
-#[derive(Clone, Copy)]
-pub struct Numbers {
-    pub number: u32,
-    pub found: u32,
-    pub place: u32,
-    pub key: u32,
-    pub tally: u32,
-}
-
-// An answer of the middle call.
-#[derive(Clone, Copy)]
-pub struct MiddleNumbers {
-    pub number: u32,
-    pub twice: u64,
-}
-
-// An answer of a link call.
-#[derive(Clone, Copy)]
-pub struct DistanceNumbers {
-    pub number: u32,
-    pub distance: u32,
-}
+use answers::{Refusal, SearchError, Searched};
+use link::LinkError;
+use setup::WrongSizes;
 
 // Yes is 1.
 pub fn of_check(yes: bool) -> u32
     ensures { result ≡ cond yes 1 0 }
 {
-    if yes { 1 } else { 0 }
+    u32::from(yes)
 }
 
-fn of_refusal(r: Refusal) -> u32
-    ensures { result ≡ number_of r }
-{
-    match r {
-        Refusal::Broken => 1,
-        Refusal::NoList => 3,
-        Refusal::SameList => 4,
-        Refusal::TooHigh => 5,
-        Refusal::Full => 6,
-        Refusal::NotEmpty => 7,
-        Refusal::PastEnd => 8,
-        Refusal::NoKey => 9,
+// A refusal or an error, which has one of document 01's numbers.
+pub trait Numbered {
+    ghost number_of: { Self → ℕ };
+
+    fn number(self) -> u32
+        ensures { result ≡ number_of self };
+}
+
+impl Numbered for Refusal {
+    ghost number_of = { refusal_number };
+
+    fn number(self) -> u32 {
+        self as u32
     }
 }
 
-fn searched(met: bool, place: Index, tally: u32) -> Numbers
-    ensures { answer_of result ≡ searched met place.0 tally }
-{
-    Numbers {
-        number: 0,
-        found: of_check(met),
-        place: place.0,
-        key: 0,
-        tally,
+impl Numbered for WrongSizes {
+    ghost number_of = { λ _. 2 };
+
+    fn number(self) -> u32 {
+        2
     }
 }
 
-fn keyed(key: u32) -> Numbers
-    ensures { answer_of result ≡ keyed key }
-{
-    Numbers {
-        number: 0,
-        found: 0,
-        place: 0,
-        key,
-        tally: 0,
+impl Numbered for LinkError {
+    ghost number_of = { λ e. (told (Err e)).number };
+
+    fn number(self) -> u32 {
+        self as u32
     }
 }
 
-fn refused(r: Refusal) -> Numbers
-    ensures { answer_of result ≡ refused (number_of r) }
-{
-    Numbers {
-        number: of_refusal(r),
-        found: 0,
-        place: 0,
-        key: 0,
-        tally: 0,
+// The number of an answer and the value beside it, as C gets them: 0 where the call is refused.
+#[derive(Clone, Copy)]
+pub struct Valued<T> {
+    pub number: u32,
+    pub value: T,
+}
+
+impl<T: Copy + Default, E: Numbered> From<Result<T, E>> for Valued<T> {
+    ghost from_gives = { Tells T.is_default E.number_of };
+
+    fn from(a: Result<T, E>) -> Valued<T> {
+        match a {
+            Ok(value) => Valued { number: 0, value },
+            Err(e) => Valued {
+                number: e.number(),
+                value: T::default(),
+            },
+        }
     }
 }
 
-fn beyond(allowance: u32) -> Numbers
-    ensures { answer_of result ≡ beyond allowance }
-{
-    Numbers {
-        number: 10,
-        found: 0,
-        place: 0,
-        key: 0,
-        tally: allowance,
-    }
+// An answer of a search, as C gets it; 0 where it has no such number.
+#[derive(Clone, Copy)]
+pub struct Numbers {
+    pub number: u32,
+    pub found: u32,
+    pub place: u32,
+    pub tally: u32,
 }
 
-pub fn of_search(a: SearchAnswer) -> Numbers
-    ensures { answer_of result ≡ search_told a }
-{
-    match a {
-        SearchAnswer::Found(i, n) => searched(true, i, n),
-        SearchAnswer::Missing(i, n) => searched(false, i, n),
-        SearchAnswer::Beyond(allowance) => beyond(allowance),
-        SearchAnswer::Refused(r) => refused(r),
-    }
-}
+impl From<Result<Searched, SearchError>> for Numbers {
+    ghost from_gives = { λ a n. answer_of n ≡ search_told a };
 
-pub fn of_key(a: KeyAnswer) -> Numbers
-    ensures { answer_of result ≡ key_told a }
-{
-    match a {
-        KeyAnswer::Is(k) => keyed(k),
-        KeyAnswer::Refused(r) => refused(r),
-    }
-}
-
-pub fn of_middle(a: MiddleAnswer) -> MiddleNumbers
-    ensures { twice_of result ≡ middle_told a }
-{
-    match a {
-        MiddleAnswer::Twice(twice) => MiddleNumbers { number: 0, twice },
-        MiddleAnswer::Refused(r) => MiddleNumbers {
-            number: of_refusal(r),
-            twice: 0,
-        },
-    }
-}
-
-// A call that answers nothing more answers its number alone.
-pub fn of_plain(a: PlainAnswer) -> u32
-    ensures { result ≡ (plain_told a).number }
-{
-    match a {
-        PlainAnswer::Accepted => 0,
-        PlainAnswer::Refused(r) => of_refusal(r),
-    }
-}
-
-pub fn of_setup(a: Setup) -> u32
-    ensures { result ≡ setup_number a }
-{
-    match a {
-        Setup::Done => 0,
-        Setup::Wrong => 2,
-    }
-}
-
-fn distance(number: u32, distance: u32) -> DistanceNumbers
-    ensures { (result.number ≡ number) × (result.distance ≡ distance) }
-{
-    DistanceNumbers { number, distance }
-}
-
-pub fn of_distance(a: Distance) -> DistanceNumbers
-    ensures { distance_of result ≡ told a }
-{
-    match a {
-        Distance::Is(d) => distance(0, d),
-        Distance::Invalid => distance(11, 0),
-        Distance::Overflow => distance(12, 0),
-        Distance::Underflow => distance(13, 0),
+    fn from(a: Result<Searched, SearchError>) -> Numbers {
+        let (number, found, place, tally) = match a {
+            Ok(Searched::Found(i, n)) => (0, 1, i.0, n),
+            Ok(Searched::Missing(i, n)) => (0, 0, i.0, n),
+            Err(SearchError::Beyond(allowance)) => (10, 0, 0, allowance),
+            Err(SearchError::Refused(r)) => (r.number(), 0, 0, 0),
+        };
+        Numbers {
+            number,
+            found,
+            place,
+            tally,
+        }
     }
 }
