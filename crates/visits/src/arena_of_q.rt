@@ -7,56 +7,56 @@ use arena::{Link, Slot};
 
 const LEVELS: usize = 2;
 
-// The columns before the links: length or key, height, next, last.
-fn put_row(w: &mut [u32], s: Slot, first: u32, height: u32, next: Slot, last: u32)
+// A record: the columns before the links (length or key, height, next, last), and the links of both levels.
+#[derive(Clone, Copy)]
+struct Record {
+    first: u32,
+    height: u32,
+    next: Slot,
+    last: u32,
+    low: Link,
+    high: Link,
+}
+
+fn link(target: u32, distance: u32) -> Link {
+    Link {
+        target: Slot(target),
+        distance,
+    }
+}
+
+fn head() -> Record {
+    Record {
+        first: 4,
+        height: 2,
+        next: Slot(1),
+        last: 4,
+        low: link(2, 2),
+        high: link(4, 4),
+    }
+}
+
+// Of a node no link of level 1 is there.
+fn node(key: u32, height: u32, next: Slot, low: Link) -> Record {
+    Record {
+        first: key,
+        height,
+        next,
+        last: 0,
+        low,
+        high: Link::ABSENT,
+    }
+}
+
+fn put_record(w: &mut [u32], s: Slot, r: Record)
     requires { RecordIn w.old 2 s.0 }
 {
-    arena::put(w, LEVELS, s, arena::KEY, first);
-    arena::put(w, LEVELS, s, arena::HEIGHT, height);
-    arena::put(w, LEVELS, s, arena::NEXT, next.0);
-    arena::put(w, LEVELS, s, arena::LAST, last);
-}
-
-fn put_links(w: &mut [u32], s: Slot, low: Link, high: Link)
-    requires { RecordIn w.old 2 s.0 }
-{
-    arena::put_link(w, LEVELS, s, 0, low);
-    arena::put_link(w, LEVELS, s, 1, high);
-}
-
-fn put_head(w: &mut [u32])
-    requires { 48 ≤ length w.old }
-{
-    let low = Link {
-        target: Slot(2),
-        distance: 2,
-    };
-    let high = Link {
-        target: Slot(4),
-        distance: 4,
-    };
-    put_row(w, Slot(0), 4, 2, Slot(1), 4);
-    put_links(w, Slot(0), low, high);
-}
-
-fn put_node(w: &mut [u32], s: Slot, key: u32, height: u32, next: Slot, low: Link)
-    requires { RecordIn w.old 2 s.0 }
-{
-    put_row(w, s, key, height, next, 0);
-    put_links(w, s, low, Link::ABSENT);
-}
-
-fn put_nodes(w: &mut [u32])
-    requires { 48 ≤ length w.old }
-{
-    let on = Link {
-        target: Slot(4),
-        distance: 2,
-    };
-    put_node(w, Slot(1), 10, 0, Slot(2), Link::ABSENT);
-    put_node(w, Slot(2), 20, 1, Slot(3), on);
-    put_node(w, Slot(3), 20, 0, Slot(4), Link::ABSENT);
-    put_node(w, Slot(4), 30, 2, Slot::NONE, Link::ABSENT);
+    arena::put(w, LEVELS, s, arena::KEY, r.first);
+    arena::put(w, LEVELS, s, arena::HEIGHT, r.height);
+    arena::put(w, LEVELS, s, arena::NEXT, r.next.0);
+    arena::put(w, LEVELS, s, arena::LAST, r.last);
+    arena::put_link(w, LEVELS, s, 0, r.low);
+    arena::put_link(w, LEVELS, s, 1, r.high);
 }
 
 fn put_sizes(w: &mut [u32])
@@ -81,6 +81,9 @@ pub fn write(w: &mut [u32])
     requires { 48 ≤ length w.old }
 {
     put_front(w);
-    put_head(w);
-    put_nodes(w);
+    put_record(w, Slot(0), head());
+    put_record(w, Slot(1), node(10, 0, Slot(2), Link::ABSENT));
+    put_record(w, Slot(2), node(20, 1, Slot(3), link(4, 2)));
+    put_record(w, Slot(3), node(20, 0, Slot(4), Link::ABSENT));
+    put_record(w, Slot(4), node(30, 2, Slot::NONE, Link::ABSENT));
 }

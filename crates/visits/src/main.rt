@@ -10,7 +10,9 @@ ghost use Rattle.model.specs.Passes.{Passes};
 ghost use Rattle.arena.specs.Owners.{Listed};
 
 use arena::{Key, Rank, Slot};
-use visitor::{IndexVisitor, OrdIndexVisitor};
+use printing::{ByKey, ByRank, Precursors};
+use std::io;
+use visitor::{IndexVisitor, OrdIndexVisitor, Traverse};
 
 const LIST: Slot = Slot(0);
 
@@ -21,75 +23,80 @@ fn levels(w: &[u32]) -> usize
     arena::wide(arena::header(w, arena::LEVELS_WORD))
 }
 
-fn by_key(w: &[u32], m: usize, key: Key, allowance: u32)
+fn by_key(rt: &impl Print, w: &[u32], m: usize, key: Key, allowance: u32) -> io::Result<()>
     requires { Listed w.now m 0 }
 {
     let v = OrdIndexVisitor::new(LIST, m, key, allowance);
-    printing::search(key, key_walk::search(w, m, LIST, key, allowance));
-    printing::key_visit(b"  given back", allowance, v.traversed(w, m));
-    printing::key_visit(b"  lent", allowance, v.lent(w, m));
-    printing::key_visit(b"  again", allowance, v.again(w, m));
+    let found = ByKey(key_walk::search(w, m, LIST, key, allowance));
+    println!(rt; "search {key}: {found}")?;
+    println!(rt; "  given back: {}", ByKey::of(v.traversed(w, m), allowance))?;
+    println!(rt; "  lent: {}", ByKey::of(v.lent(w, m), allowance))?;
+    println!(rt; "  again: {}", ByKey::of(v.again(w, m), allowance))
 }
 
 // A visitor that ran out of comparisons goes on once it is given more.
-fn given_more(w: &[u32], m: usize, key: Key, allowance: u32, more: u32)
+fn given_more(
+    rt: &impl Print,
+    w: &[u32],
+    m: usize,
+    key: Key,
+    allowance: u32,
+    more: u32,
+) -> io::Result<()>
     requires { Listed w.now m 0 }
 {
     let v = OrdIndexVisitor::new(LIST, m, key, allowance);
-    let mut u = v.lent(w, m);
-    u.left = more;
-    printing::key_visit(b"  given more", more, u.lent(w, m));
+    let u = OrdIndexVisitor {
+        left: more,
+        ..v.lent(w, m)
+    };
+    println!(rt; "  given more: {}", ByKey::of(u.lent(w, m), more))
 }
 
-fn by_rank(w: &[u32], m: usize, target: Rank)
+fn by_rank(rt: &impl Print, w: &[u32], m: usize, target: Rank) -> io::Result<()>
     requires { Listed w.now m 0 }
 {
     let v = IndexVisitor::new(LIST, m, target);
-    printing::reached(m, target, rank_walk::by_rank(w, m, LIST, target));
-    printing::rank_visit(b"  given back", v.traversed(w, m));
-    printing::rank_visit(b"  lent", v.lent(w, m));
-    printing::rank_visit(b"  again", v.again(w, m));
+    let r = rank_walk::by_rank(w, m, LIST, target);
+    let end = ByRank(r.ended.map(|s| (s, target)));
+    println!(rt; "rank {}: {end}, {}", target.0, Precursors(r.path, m))?;
+    println!(rt; "  given back: {}", ByRank::from(v.traversed(w, m)))?;
+    println!(rt; "  lent: {}", ByRank::from(v.lent(w, m)))?;
+    println!(rt; "  again: {}", ByRank::from(v.again(w, m)))
 }
 
-fn keys(w: &[u32], m: usize)
+fn keys(rt: &impl Print, w: &[u32], m: usize) -> io::Result<()>
     requires { Listed w.now m 0 }
 {
-    by_key(w, m, 5, 100);
-    by_key(w, m, 20, 100);
-    by_key(w, m, 25, 100);
-    by_key(w, m, 30, 100);
-    by_key(w, m, 31, 100);
-    by_key(w, m, 25, 5);
-    by_key(w, m, 25, 4);
-    given_more(w, m, 25, 4, 5);
-}
-
-fn ranks(w: &[u32], m: usize)
-    requires { Listed w.now m 0 }
-{
-    by_rank(w, m, Rank::HEAD);
-    by_rank(w, m, Rank::FIRST);
-    by_rank(w, m, Rank(3));
-    by_rank(w, m, Rank(4));
-    by_rank(w, m, Rank(5));
-}
-
-fn walks(w: &[u32])
-    requires { Passes w.now }
-{
-    let m = levels(w);
-    keys(w, m);
-    ranks(w, m);
-}
-
-fn visit(w: &[u32]) {
-    if arena_check::check(w) {
-        walks(w);
+    for key in [5, 20, 25, 30, 31] {
+        by_key(rt, w, m, key, 100)?;
     }
+    by_key(rt, w, m, 25, 5)?;
+    by_key(rt, w, m, 25, 4)?;
+    given_more(rt, w, m, 25, 4, 5)
 }
 
-fn main() {
+fn ranks(rt: &impl Print, w: &[u32], m: usize) -> io::Result<()>
+    requires { Listed w.now m 0 }
+{
+    for target in [Rank::HEAD, Rank::FIRST, Rank(3), Rank(4), Rank(5)] {
+        by_rank(rt, w, m, target)?;
+    }
+    Ok(())
+}
+
+fn visit(rt: &impl Print, w: &[u32]) -> io::Result<()> {
+    if arena_check::check(w) {
+        let m = levels(w);
+        keys(rt, w, m)?;
+        ranks(rt, w, m)?;
+    }
+    Ok(())
+}
+
+fn main(rt: HostRuntime) {
     let mut w = [0u32; 48];
     arena_of_q::write(&mut w);
-    visit(&w);
+    // What cannot be written is left out, and the status stays 0.
+    let _ = visit(&rt, &w);
 }
