@@ -18,7 +18,7 @@ impl<const N: usize> Lent<N> {
         ensures told { IsSome result ↔ n ≤ N }
         ensures relent { Relent (leb n (length self.old.words)) (replicate n v) self.old.len self.old.words self.new.words self.new.len }
     {
-        let next = arena::wide(n);
+        let next = n as usize;
         if next > N {
             return None;
         }
@@ -49,7 +49,7 @@ pub fn poke(w: &mut [u32], i: u32, v: u32) -> Option<()>
     ensures told { IsSome result ↔ i < length w.old }
     ensures stored { w.new ≡ set w.old i v }
 {
-    let at = arena::wide(i);
+    let at = i as usize;
     if at >= w.len() {
         return None;
     }

@@ -10,7 +10,7 @@ ghost use Rattle.arena.specs.Owners.{Leads, NodeThere};
 ghost use Rattle.level_links.specs.AtIndex.{inserted_at, CanInsert, NodeIs};
 ghost use Rattle.level_links.specs.OneLevel.{LevelFits, LevelInserted, LevelRemoved, LinksDone};
 
-use arena::{Index, Key, Link, Path, Rank, Slot, link_at, put_link, wide};
+use arena::{Index, Key, Link, Path, Rank, Slot, link_at, put_link};
 use link::{farther, longer, made, nearer, shorter};
 
 // The link k at another distance.
@@ -69,7 +69,7 @@ pub fn insert_links(
     ensures { LinksDone w.old (inserted_at (decode w.old) list.0 i.0 key height) m w.new }
 {
     let place = Rank::before(i);
-    let h = wide(height);
+    let h = height as usize;
     for l in 0..m {
         let back = place.0 - path.ranks[l].0;
         insert_level(w, m, l, h, path.slots[l], o, back);

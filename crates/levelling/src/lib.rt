@@ -9,7 +9,7 @@ ghost use Rattle.model.specs.Passes.{decode};
 ghost use Rattle.arena.specs.Owners.{Listed};
 ghost use Rattle.levelling.specs.NodeByNode.{Full, SteppedOver, CanRelevel, Relevelled};
 
-use arena::{COUNT, Index, NEXT, Path, Rank, Slot, cell, wide};
+use arena::{COUNT, Index, NEXT, Path, Rank, Slot, cell};
 use insertion::insert_before;
 use removal::remove_after;
 
@@ -60,7 +60,7 @@ fn relevel(w: &mut [u32], m: usize, list: Slot, i: Index, h: u32, path: Path) ->
     let slot = Slot(cell(w, m, path.end, NEXT));
     let key = remove_after(w, m, list, i, path);
     insert_before(w, m, list, key, h, i, path);
-    step_over(path, slot, Rank::from_index(i), wide(h))
+    step_over(path, slot, Rank::from_index(i), h as usize)
 }
 
 pub fn level(w: &mut [u32], m: usize, list: Slot)

@@ -10,7 +10,7 @@ ghost use Rattle.arena.specs.Owners.{Leads, NodeThere};
 
 use arena::{
     COUNT, FIRST_FREE_WORD, FREE_WORD, HEIGHT, Index, Key, LAST, NEXT, Path, Rank, Slot, cell,
-    header, key_at, last_slot, wide,
+    header, key_at, last_slot,
 };
 use chain_words::{Head, Record, put_chain, put_free};
 use level_links::remove_links;
@@ -40,7 +40,7 @@ pub fn remove_after(w: &mut [u32], m: usize, list: Slot, i: Index, path: Path) -
     let last = last_without(i, n, path.end, Slot(cell(w, m, list, LAST)));
     let first = Slot(header(w, FIRST_FREE_WORD));
     let free = header(w, FREE_WORD);
-    remove_links(w, m, list, i, o, wide(height), path);
+    remove_links(w, m, list, i, o, height as usize, path);
     let head = Head {
         slot: list,
         count: n - 1,

@@ -71,7 +71,7 @@ fn write_records(w: &mut [u32], l: u32, m: u32, n: u32)
     requires w_len { length w.old ≡ header_words + n * width m }
     ensures { FirstNew l m n w.old n w.new }
 {
-    let levels = arena::wide(m);
+    let levels = m as usize;
     for s in 0..n {
         write_record(w, levels, Slot(s), front_of(s, l, m, n));
     }

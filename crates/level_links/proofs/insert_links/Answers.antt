@@ -1,4 +1,5 @@
 -- `level_links::insert_links` meets its contract: after l turns the links of the levels below l are those of the new model.
+use mathlib.Core.Path.{refl}
 use native.Mathlib.Omega.{arith}
 use Rattle.level_links.proofs.InsertLinks.{insert_start, rank_le, level_fits, insert_turn}
 use Rattle.level_links.proofs.insert_links.Goals as goal
@@ -20,4 +21,4 @@ insert_level-requires c =
 
 pub loop-l-preserved : goal.loop-l-preserved
 loop-l-preserved c =
-    λ a i e p q. insert_turn p q (c.loop-l.invariant a i e p q) (omega arith) e c.requires.o_value c.wide-h.ensures c.insert_level.ensures
+    λ a i e p q. insert_turn p q (c.loop-l.invariant a i e p q) (omega arith) e c.requires.o_value refl c.insert_level.ensures

@@ -1,4 +1,5 @@
 -- `levelling::relevel` meets its contract: the freed slot is the first free one, so that the node comes back in its slot.
+use mathlib.Core.Path.{refl}
 use native.Mathlib.Omega.{arith}
 use Rattle.removal.proofs.RemoveAfter.{place_fits, cell-end, out_is}
 use Rattle.levelling.proofs.OneNode.{leads_out, can_insert_again, as-levelled, relevelled}
@@ -24,4 +25,4 @@ returns c =
     let (out, is_key) = c.remove_after-key.ensures in
     let words = as-levelled p.there p.height out is_key c.insert_before.ensures in
     relevelled p.there p.height words p.leads (out_is p.there p.leads.end c.cell.ensures)
-    c.from_index.ensures c.wide.ensures c.step_over.ensures
+    c.from_index.ensures refl c.step_over.ensures

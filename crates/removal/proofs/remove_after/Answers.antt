@@ -1,5 +1,5 @@
 -- `removal::remove_after` meets its contract: the words read are those of the model, and the links, the chain and the header make the new one.
-use mathlib.Core.Path.{◌∙◌}
+use mathlib.Core.Path.{refl, ◌∙◌}
 use native.Mathlib.Omega.{arith}
 use Rattle.removal.proofs.RemoveAfter.{cell_head, place_fits, some_there, free_fits, cell-end, node-is, cell_out, word_out, chain_lies, remove_done}
 use Rattle.removal.proofs.remove_after.Goals as goal
@@ -35,7 +35,7 @@ last_without-last-requires c =
 pub remove_links-requires-clause-node_is : goal.remove_links-requires-clause-node_is
 remove_links-requires-clause-node_is c =
     let (p, leads) = c.requires in
-    node-is p leads.end c.cell.ensures c.cell-height.ensures c.wide.ensures
+    node-is p leads.end c.cell.ensures c.cell-height.ensures refl
 
 pub overflow_sub-head : goal.overflow_sub-head
 overflow_sub-head c =
