@@ -1,12 +1,11 @@
 -- The lines of the lists, one after the other: what the loop over the lists has put. Rests on specs/Reports and figures_text's Putting.
 use Prim.Native.Nat.{ℕ, suc, ◌+◌, ◌*◌, ◌≤◌, ◌<◌}
-use mathlib.Core.Path.{◌≡◌, refl, sym, ap, ◌∙◌, subst}
+use mathlib.Core.Path.{◌≡◌, sym, ap, ◌∙◌, subst}
 use mathlib.Core.List.{List, [], ◌∷◌, ◌++◌, map, append-nil, append_assoc}
 use lib.ListN.{length, take, get_or, length-map, get_or-map}
 use lib.Seq.{take-suc, take_all, length-take-le}
 use native.Mathlib.Numerals.{add-one}
 use native.Mathlib.Omega.{arith}
-use Rattle.model.specs.Nodes.{Node}
 use Rattle.model.specs.Passes.{decode, nodes, Passes}
 use Rattle.figures.specs.declared.Figures.{Figures}
 use Rattle.figures.specs.Figured.{figures_of}

@@ -1,8 +1,8 @@
 -- From the parts of the answer to its promise: what is put from the front is the front, and the rest stays. Rests on specs/Reports.
-use Prim.Native.Nat.{ℕ, ◌+◌, ◌≤◌, ◌<◌}
-use mathlib.Core.Path.{◌≡◌, refl, sym, ap, ◌∙◌, subst}
-use mathlib.Core.List.{List, [], ◌∷◌, ◌++◌}
-use lib.ListN.{length, take, drop, take-append-drop}
+use Prim.Native.Nat.{ℕ, ◌≤◌, ◌<◌}
+use mathlib.Core.Path.{◌≡◌, refl, sym, ap, ◌∙◌}
+use mathlib.Core.List.{List, ◌++◌}
+use lib.ListN.{length, drop, take-append-drop}
 use native.Mathlib.Omega.{arith}
 use Rattle.model.specs.Passes.{decode, Passes}
 use Rattle.figures_text.specs.Texts.{last_of, Put}

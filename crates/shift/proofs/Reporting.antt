@@ -1,24 +1,21 @@
 -- Feeding a text in any pieces and then finishing gives the report of the whole text. Rests on specs/Reports, shift_feed's Feeding and model's Slices.
-use Prim.Native.Nat.{ℕ, suc, ◌+◌, ◌^◌, ◌≤◌, ◌<◌}
+use Prim.Native.Nat.{ℕ}
 use mathlib.Core.Path.{◌≡◌, refl, sym, ap, ◌∙◌, subst}
 use mathlib.Core.List.{List, [], ◌∷◌, ◌++◌, map}
-use lib.Dec.{ltb}
 use lib.ListN.{length, drop, get_or, length-map, get_or-map}
 use borrow.Author.Tests.{lt-ltb}
 use native.Mathlib.Omega.{arith}
 use Rattle.model.specs.Arena.{State, set_up}
-use Rattle.model.specs.Passes.{decode, Passes}
+use Rattle.model.specs.Passes.{decode}
 use Rattle.model.specs.Nodes.{Node}
 use Rattle.model.specs.Calls.{insert_key, result_of, SetUpPromise}
-use Rattle.model.specs.Slices.{Held, broken, whole, Holds, held}
+use Rattle.model.specs.Slices.{Held, whole, Holds, held}
 use Rattle.model.proofs.EveryCall.{alike-after, set_up_sound, set_up_sizes}
 use Rattle.model.proofs.Slices.{fits, fails, decided}
 use Rattle.model.proofs.Models.{passes_model, model_of}
-use Rattle.figures.specs.declared.FiguresAnswer.{FiguresAnswer}
-use Rattle.figures.specs.declared.FiguresAnswer.TheVariants.{Are}
-use Rattle.figures.specs.Figured.{figures_of, FiguresPromise}
-use Rattle.shift_line.specs.declared.Entry.{Entry}
-use Rattle.shift_line.specs.declared.Entry.TheVariants.{Reading, Unread}
+use Rattle.std.specs.Prelude.{Option, Some, None, Ok}
+use Rattle.figures.specs.Figured.{figures_of}
+use Rattle.shift_line.specs.declared.Reading.{Reading}
 use Rattle.shift_line.specs.Reads.{blank}
 use Rattle.shift_line.specs.Lines.{lines_of, parsed}
 use Rattle.shift_feed.specs.declared.Desk.{Desk}
@@ -26,7 +23,7 @@ use Rattle.shift_feed.specs.Shifts.{Shift, inserting, taken, taken_all, fresh, s
 use Rattle.shift_feed.specs.Feeds.{Midway, fed, capped, desk_of}
 use Rattle.shift_feed.proofs.Capping.{capped-within, goes_on, fed-stable, ended-stable}
 use Rattle.shift_feed.proofs.Feeding.{fed_both, lines_taken, skipped_within}
-use Rattle.shift.specs.Reports.{lists_in, report_on, report_of, text_of, room, AnswerPromise, Fed, none, piece, joined, Run, Gives, Reporting}
+use Rattle.shift.specs.Reports.{lists_in, report_on, report_of, text_of, Fed, none, piece, joined, Run, Reporting}
 
 -- ---- the pieces ----
 -- all pieces go on as the whole text does
@@ -49,12 +46,12 @@ record Whole (lists : ℕ) (h : Held) : Type 0 where
   is : h ≡ whole state
   number : length state.lists ≡ lists
 
-stays : {L : ℕ} (s : Shift) (e : Entry) → Whole L s.held → Whole L (taken s e).held
-stays s Unread p = p
-stays s (Reading l k) p = record {
-  state = result_of p.state (insert_key l k 0);
-  is = ap (λ h. held h (inserting l k)) p.is;
-  number = (alike-after p.state (insert_key l k 0)).lists ∙ p.number;
+stays : {L : ℕ} (s : Shift) (e : Option Reading) → Whole L s.held → Whole L (taken s e).held
+stays s None p = p
+stays s (Some r) p = record {
+  state = result_of p.state (insert_key r.list r.key 0);
+  is = ap (λ h. held h (inserting r.list r.key)) p.is;
+  number = (alike-after p.state (insert_key r.list r.key 0)).lists ∙ p.number;
 }
 
 all_stay : {L : ℕ} (s : Shift) (lines : List (List ℕ)) → Whole L s.held → Whole L (taken_all s lines).held
@@ -100,8 +97,8 @@ reporting pieces words desk within r =
       skipped = count;
       numbers = λ {a} inside p.
           p.whole passes
-          ∙ (rw (lt-ltb a (length (decode words).lists) (omega (arith, two))) (ap Are (sym (get_or-map figures_of (decode words).lists a []))))
-          ∙ ap (λ (xs : List (List Node)). Are (get_or (map figures_of xs) a (figures_of []))) (sym lists);
+          ∙ (rw (lt-ltb a (length (decode words).lists) (omega (arith, two))) (ap Ok (sym (get_or-map figures_of (decode words).lists a []))))
+          ∙ ap (λ (xs : List (List Node)). Ok (get_or (map figures_of xs) a (figures_of []))) (sym lists);
       text = λ {before} {after} {n} long p.
           let t = p.whole long passes in
           (t.0 ∙ ap (λ r. length (text_of r)) same, t.1 ∙ ap (λ r. text_of r ++ drop (length (text_of r)) before) same);

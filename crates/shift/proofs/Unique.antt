@@ -1,5 +1,5 @@
 -- The promise of the answer allows one number and one content of the slice. Rests on specs/Reports and model's Unique.
-use Prim.Native.Nat.{ℕ, ◌≤◌}
+use Prim.Native.Nat.{ℕ}
 use mathlib.Core.Path.{◌≡◌, sym, ◌∙◌}
 use mathlib.Core.List.{List, List-discrete}
 use lib.ListN.{length}

@@ -1,13 +1,12 @@
 -- Request K1: the report of a text, as numbers and as bytes; and that the calls give it. Rests on shift_feed's Shifts and Feeds, figures' Figured and
 -- figures_text's Texts.
-use Rattle.std.specs.Prelude.{ℕ, suc, ◌^◌, ◌≤◌, ◌<◌, ◌≡◌, List, [], ◌∷◌, ◌++◌, map, length, drop, get_or}
+use Rattle.std.specs.Prelude.{ℕ, suc, ◌^◌, ◌≤◌, ◌<◌, ◌≡◌, List, [], ◌∷◌, ◌++◌, map, length, drop, get_or, Result, Ok}
 use Rattle.model.specs.Nodes.{Node, key_at}
 use Rattle.model.specs.Passes.{decode, nodes, Passes}
 use Rattle.model.specs.Calls.{SetUpPromise}
 use Rattle.model.specs.Slices.{Held, broken, whole}
+use Rattle.answers.specs.declared.Refusal.{Refusal}
 use Rattle.figures.specs.declared.Figures.{Figures}
-use Rattle.figures.specs.declared.FiguresAnswer.{FiguresAnswer}
-use Rattle.figures.specs.declared.FiguresAnswer.TheVariants.{Are}
 use Rattle.figures.specs.Figured.{figures_of, FiguresPromise}
 use Rattle.figures_text.specs.Texts.{line_of, last_of}
 use Rattle.shift_feed.specs.declared.Desk.{Desk}
@@ -75,7 +74,7 @@ pub record Gives (r : Report) (words : List ℕ) (desk : Desk) : Type 0 where
   pub passes : Passes words
   pub lists : length r.figures ≡ 2
   pub skipped : desk.skipped ≡ r.skipped
-  pub numbers : {a : ℕ} {x : FiguresAnswer} → a < 2 → FiguresPromise a words x → x ≡ Are (get_or r.figures a (figures_of []))
+  pub numbers : {a : ℕ} {x : Result Figures Refusal} → a < 2 → FiguresPromise a words x → x ≡ Ok (get_or r.figures a (figures_of []))
   pub text : {before after : List ℕ} {n : ℕ} → room ≤ length before → AnswerPromise words desk.skipped before after n
       → (n ≡ length (text_of r)) × (after ≡ text_of r ++ drop (length (text_of r)) before)
 
@@ -109,5 +108,5 @@ pub record Reports : Type 0 where
   pub smallest : {w : List ℕ} → Passes w → (a i : ℕ) → i < length (nodes w a) → (figures_of (nodes w a)).smallest ≤ key_at (nodes w a) i
   pub largest : {w : List ℕ} → Passes w → (a i : ℕ) → i < length (nodes w a) → key_at (nodes w a) i ≤ (figures_of (nodes w a)).largest
   pub one_desk : {f : Midway → Midway} {d r s : Desk} {w u v : List ℕ} → Goes f d w u r → Goes f d w v s → (r ≡ s) × (u ≡ v)
-  pub one_figures : {a : ℕ} {w : List ℕ} {r s : FiguresAnswer} → FiguresPromise a w r → FiguresPromise a w s → r ≡ s
+  pub one_figures : {a : ℕ} {w : List ℕ} {r s : Result Figures Refusal} → FiguresPromise a w r → FiguresPromise a w s → r ≡ s
   pub one_text : {w before u v : List ℕ} {skipped m n : ℕ} → AnswerPromise w skipped before u m → AnswerPromise w skipped before v n → (m ≡ n) × (u ≡ v)

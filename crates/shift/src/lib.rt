@@ -11,9 +11,10 @@ ghost use Rattle.figures.specs.Figured.{figures_of, FiguresPromise};
 ghost use Rattle.figures_text.specs.Texts.{Put};
 ghost use Rattle.shift.specs.Reports.{lines_from, AnswerPromise};
 
+use answers::Refusal;
 use arena::Slot;
-pub use figures::{Figures, FiguresAnswer};
-use setup::Setup;
+pub use figures::Figures;
+use setup::WrongSizes;
 pub use shift_feed::{Desk, feed, finish};
 
 // An arena of two lists, 8 levels and 400 nodes has so many words.
@@ -23,14 +24,14 @@ pub const WORDS: usize = 8048;
 pub const ROOM: usize = 1261;
 
 // An empty arena of the shift's sizes.
-pub fn set_up(w: &mut [u32]) -> Setup
+pub fn set_up(w: &mut [u32]) -> Result<(), WrongSizes>
     ensures { SetUpPromise 2 8 400 w.old w.new (number_of result) }
 {
     setup::set_up(w, 2, 8, 400)
 }
 
 // The figures of a list.
-pub fn figures(w: &[u32], list: Slot) -> FiguresAnswer
+pub fn figures(w: &[u32], list: Slot) -> Result<Figures, Refusal>
     ensures { FiguresPromise list.0 w.now result }
 {
     figures::answer(w, list)
@@ -41,12 +42,10 @@ fn lines(w: &[u32], m: usize, lists: u32, out: &mut [u8]) -> usize
     requires { Passes w.now × (m ≡ get_or w.now levels_word 0) × (lists ≡ get_or w.now lists_word 0) × (1232 ≤ length out.old) }
     ensures { Put 0 (lines_from 0 (map figures_of (decode w.now).lists)) out.old out.new result × (result ≤ 1232) }
 {
-    let mut at: usize = 0;
-    let mut list: u32 = 0;
-    while list < lists {
+    let mut at = 0;
+    for list in 0..lists {
         let f = figures::of(w, m, Slot(list));
         at = figures_text::line(out, at, list, f);
-        list += 1;
     }
     at
 }
@@ -55,10 +54,7 @@ fn lines(w: &[u32], m: usize, lists: u32, out: &mut [u8]) -> usize
 pub fn answer(w: &[u32], skipped: u64, out: &mut [u8]) -> usize
     ensures { AnswerPromise w.now skipped out.old out.new result }
 {
-    if out.len() < ROOM {
-        return 0;
-    }
-    if !arena_check::check(w) {
+    if out.len() < ROOM || !arena_check::check(w) {
         return 0;
     }
     let m = arena::wide(arena::header(w, arena::LEVELS_WORD));

@@ -1,18 +1,13 @@
 -- `shift::lines` meets its contract: after i turns the lines of i lists are put.
-use Prim.Native.Nat.{◌-◌}
 use native.Mathlib.Omega.{arith}
-use borrow.Author.Rules.{rules}
 use Rattle.model.proofs.Columns.{lists_are}
 use Rattle.shift.proofs.AllLines.{one-lined}
 use Rattle.shift.proofs.lines.Goals as goal
 
 pub loop-list-preserved : goal.loop-list-preserved
-loop-list-preserved c = (
-  one-lined
-      (omega (arith, lists_are c.args.w.now))
-      c.loop-list.invariant.0
-      (rw c.of-f.ensures.value at c.line-at.ensures.put)
-      c.line-at.ensures.upper_bound,
-  search rules,
-  cc,
-)
+loop-list-preserved c =
+    one-lined
+    (omega (arith, lists_are c.args.w.now))
+    c.loop-list.invariant
+    (rw c.of-f.ensures.value at c.line-at.ensures.put)
+    c.line-at.ensures.upper_bound
