@@ -20,7 +20,7 @@ pub fn one_list(w: &[u32], list: Slot) -> Result<usize, Refusal>
     if arena::header(w, arena::LISTS_WORD) <= list.0 {
         return Err(Refusal::NoList);
     }
-    Ok(arena::wide(arena::header(w, arena::LEVELS_WORD)))
+    Ok(arena::header(w, arena::LEVELS_WORD) as usize)
 }
 
 pub fn two_lists(w: &[u32], a: Slot, b: Slot) -> Result<usize, Refusal>
@@ -34,5 +34,5 @@ pub fn two_lists(w: &[u32], a: Slot, b: Slot) -> Result<usize, Refusal>
     if a == b {
         return Err(Refusal::SameList);
     }
-    Ok(arena::wide(arena::header(w, arena::LEVELS_WORD)))
+    Ok(arena::header(w, arena::LEVELS_WORD) as usize)
 }

@@ -24,7 +24,7 @@ pub fn insert(w: &mut [u32], list: Slot, key: u32, height: u32) -> Result<(), Re
     ensures { Kept (insert_key list.0 key height) w.old w.new (plain_told result) }
 {
     let m = answers::one_list(w, list)?;
-    if m < arena::wide(height) {
+    if m < height as usize {
         return Err(Refusal::TooHigh);
     }
     if free(w) == 0 {

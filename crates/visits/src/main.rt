@@ -20,7 +20,7 @@ fn levels(w: &[u32]) -> usize
     requires { Passes w.now }
     ensures { Listed w.now result 0 }
 {
-    arena::wide(arena::header(w, arena::LEVELS_WORD))
+    arena::header(w, arena::LEVELS_WORD) as usize
 }
 
 fn by_key(rt: &impl Print, w: &[u32], m: usize, key: Key, allowance: u32) -> io::Result<()>
