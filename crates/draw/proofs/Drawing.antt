@@ -13,27 +13,21 @@ use Rattle.model.proofs.Walk.{last_le}
 use Rattle.arena.specs.Linked.{LinkIn}
 use Rattle.arena.specs.Owners.{slot_in, rank_in, Listed, NodeThere, Leads}
 use Rattle.arena.specs.declared.Path.{Path}
-use Rattle.draw.specs.Blocks.{Run}
-use Rattle.draw.specs.declared.blocks.Block.{Block}
 use Rattle.walk.specs.Standing.{Standing}
-use Rattle.walk.proofs.Standing.{at-rank, levels_most, length_most, cell_here}
+use Rattle.walk.proofs.Standing.{at-rank, length_most, cell_here}
 
 link_in : {w : List ℕ} {m a i h s r l : ℕ} → Standing w m a i h s r → l < m → LinkIn w m s l
 link_in {l = l} g k =
     let far = cell_here g (far_column l) (omega arith) in
     record { small = far.small; level = k; inside = far.inside }
 
-pub few_levels : {w : List ℕ} {m a : ℕ} → Listed w m a → m ≤ 16
-few_levels g = levels_most (at-rank 0 g (omega arith) refl)
+pub few_keys : {w : List ℕ} {m a : ℕ} → Listed w m a → length (nodes w a) ≤ 65535
+few_keys g = omega (arith, length_most (at-rank 0 g (omega arith) refl))
 
--- an index of a block is that of a node
-pub in_block : {w : List ℕ} {m i : ℕ} {b : Block} → Run w m b → i < b.past → NodeThere w m b.list.0 i
-in_block g l = record { listed = g.listed; index = omega (arith, g.within) }
+pub there : {w : List ℕ} {m a i : ℕ} → Listed w m a → i < length (nodes w a) → NodeThere w m a i
+there g k = record { listed = g; index = k }
 
 module _ {w : List ℕ} {m a i : ℕ} (g : NodeThere w m a i) where
-  pub few : i < 65536
-  few = omega (arith, length_most (at-rank 0 g.listed (omega arith) refl), g.index)
-
   module _ {s : ℕ} (e : s ≡ slot_at a (nodes w a) (i + 1)) where
     pub its_cell : (c : ℕ) → c < width m → Cell w m s c
     its_cell = cell_here (at-rank (i + 1) g.listed (omega (arith, g.index)) e)

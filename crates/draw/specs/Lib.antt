@@ -1,4 +1,4 @@
-pub mod Blocks
 pub mod Forms
 pub mod Holds
+pub mod Once
 pub mod Places

@@ -1,123 +1,101 @@
 // A block of a list as SVG: a node as a box as high as its levels, with its key, and below it index and slot; each link as an arrow
 // with its distance. A link that leaves a block ends at its edge without a head, and comes from the edge of the next.
-ghost use Rattle.std.specs.Prelude.{◌+◌, ◌≤◌, ◌<◌};
-ghost use Rattle.arena.specs.Owners.{NodeThere, Leads};
+ghost use Rattle.std.specs.Prelude.{◌+◌, ◌≤◌, ◌<◌, length};
+ghost use Rattle.model.specs.Passes.{nodes};
+ghost use Rattle.arena.specs.Owners.{Leads};
 ghost use Rattle.draw.specs.Holds.{Holds};
-ghost use Rattle.draw.specs.Blocks.{Run};
 
 use super::blocks::{Block, Held};
-use super::{blocks, svg};
-use arena::{Index, Path};
+use super::svg;
+use arena::Path;
+
+// The nodes of a block, at most.
+pub const ROOM: u32 = 10;
+
+type Part<'a> = Block<'a, { ROOM }>;
 
 // The column of a rank in a block: 0 is the head's, and that of what stands before the block.
-fn column(b: Block, rank: u32) -> u32
+fn column(b: Part<'_>, rank: u32) -> u32
     requires { rank ≤ b.first + 10 }
     ensures { result ≤ 10 }
 {
-    if rank < b.first {
-        return 0;
-    }
-    rank - b.first
+    rank.saturating_sub(b.first)
 }
 
 // The link that is held before index i, if it ends there.
-fn link(b: Block, held: Held, arrived: bool, i: u32, row: u32)
+fn link(out: &impl Print, b: Part<'_>, held: Held, arrived: bool, i: u32, row: u32)
     requires { (held.from ≤ i) × (i < b.first + 10) × (i < 4294967295) × (row ≤ 16) }
 {
     if arrived {
-        svg::arrow(column(b, held.from), column(b, i + 1), row);
-        svg::distance(column(b, i + 1), row, held.far);
+        svg::arrow(out, column(b, held.from), column(b, i + 1), row);
+        svg::distance(out, column(b, i + 1), row, held.far);
     }
 }
 
 // The arrows of a level.
-fn level(w: &[u32], m: usize, b: Block, l: usize, held: Held)
-    requires { Run w.now m b × (b.past ≤ b.first + 10) × (l < m) × Holds w.now b.list.0 l b.first held }
+fn level(out: &impl Print, b: Part<'_>, l: usize, held: Held)
+    requires { (l < b.list.levels) × Holds b.list.words.now b.list.head.0 l b.first held }
 {
-    let row = (m - 1 - l) as u32;
-    svg::level_name(row, l as u32);
+    let row = (b.list.levels - 1 - l) as u32;
+    svg::name(out, row, format_args!("level {l}"));
     let mut before = held;
-    let mut i = b.first;
-    while i < b.past {
-        let behind = blocks::held_behind(w, m, b.list, i, l, before);
-        link(b, before, blocks::arrives(before, i), i, row);
+    for i in b.first..b.past {
+        let behind = b.list.held_behind(i, l, before);
+        link(out, b, before, before.arrives(i), i, row);
         before = behind;
-        i += 1;
     }
-    if before.far != 0 {
-        svg::leaves(column(b, before.from), column(b, b.past), row);
+    if before.goes_on() {
+        svg::leaves(out, column(b, before.from), column(b, b.past), row);
     }
 }
 
-fn levels(w: &[u32], m: usize, b: Block, path: Path)
-    requires { Run w.now m b × (b.past ≤ b.first + 10) × Leads w.now m b.list.0 b.first path }
+fn levels(out: &impl Print, b: Part<'_>, path: Path)
+    requires { Leads b.list.words.now b.list.levels b.list.head.0 b.first path }
 {
-    let mut stage = m;
-    while 0 < stage {
-        let l = stage - 1;
-        level(
-            w,
-            m,
-            b,
-            l,
-            blocks::held_before(w, m, b.list, b.first, path, l),
-        );
-        stage = l;
+    for l in (0..b.list.levels).rev() {
+        level(out, b, l, b.list.held_before(b.first, path, l));
     }
 }
 
 // A node's box, from the row of its highest level down to that of the keys, with its numbers.
-fn node(w: &[u32], m: usize, b: Block, i: u32)
-    requires { NodeThere w.now m b.list.0 i × (b.first ≤ i) × (i < b.first + 10) }
+fn node(out: &impl Print, b: Part<'_>, i: u32)
+    requires { (b.first ≤ i) × (i < b.past) }
 {
-    let keys = m as u32;
-    let top = (m - blocks::height_at(w, m, b.list, i)) as u32;
+    let keys = b.list.levels as u32;
+    let top = (b.list.levels - b.list.height_at(i)) as u32;
     let c = column(b, i + 1);
-    svg::tower(c, top, keys);
-    svg::number(c, keys, blocks::key_at(w, m, b.list, i));
-    svg::number(c, keys + 1, i);
-    let s = blocks::slot_at(w, m, b.list, i);
-    svg::number(c, keys + 2, s.0);
-}
-
-fn nodes(w: &[u32], m: usize, b: Block)
-    requires { Run w.now m b × (b.past ≤ b.first + 10) }
-{
-    let mut i = b.first;
-    while i < b.past {
-        node(w, m, b, i);
-        i += 1;
-    }
+    svg::tower(out, c, top, keys);
+    svg::label(out, c, keys, b.list.key_at(i));
+    svg::label(out, c, keys + 1, i);
+    svg::label(out, c, keys + 2, b.list.slot_at(i).0);
 }
 
 // The links of the row of keys: from each node to the next.
-fn next(b: Block, row: u32)
-    requires { (b.first ≤ b.past) × (b.past ≤ b.first + 10) × (row ≤ 16) }
+fn next(out: &impl Print, b: Part<'_>, row: u32)
+    requires { row ≤ 16 }
 {
-    let mut i = b.first;
-    while i < b.past {
-        svg::arrow(column(b, i), column(b, i + 1), row);
-        i += 1;
+    for i in b.first..b.past {
+        svg::arrow(out, column(b, i), column(b, i + 1), row);
     }
-    if b.past < b.count {
-        svg::leaves(column(b, b.past), column(b, b.past), row);
+    if b.goes_on() {
+        svg::leaves(out, column(b, b.past), column(b, b.past), row);
     }
 }
 
-pub fn block(w: &[u32], m: usize, b: Block, y: u32)
-    requires { Run w.now m b × (b.past ≤ b.first + 10) }
-{
-    svg::open_group(y);
-    let keys = m as u32;
-    if b.first == 0 {
-        svg::head(keys);
-        svg::number(0, keys + 2, b.list.0);
+pub fn block(out: &impl Print, b: Part<'_>, y: u32) {
+    svg::open_group(out, y);
+    let keys = b.list.levels as u32;
+    if b.at_head() {
+        svg::head(out, keys);
+        svg::label(out, 0, keys + 2, b.list.head.0);
     }
-    nodes(w, m, b);
-    levels(w, m, b, rank_walk::seek(w, m, b.list, Index(b.first)));
-    next(b, keys);
-    svg::name(keys, b"next");
-    svg::name(keys + 1, b"index");
-    svg::name(keys + 2, b"slot");
-    svg::close_group();
+    for i in b.first..b.past {
+        node(out, b, i);
+    }
+    levels(out, b, b.list.path(b.first));
+    next(out, b, keys);
+    svg::name(out, keys, "next");
+    svg::name(out, keys + 1, "index");
+    svg::name(out, keys + 2, "slot");
+    svg::close_group(out);
 }

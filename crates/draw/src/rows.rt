@@ -1,20 +1,20 @@
 // An arena as text: each list in blocks of at most 80 columns, a row for each level with the distance of each link, the row of next, and below
 // them the indexes and the slots. A link that leaves a block ends in dots, and begins with dots where it comes into the next.
-ghost use Rattle.std.specs.Prelude.{◌≡◌, ◌<◌, length};
+ghost use Rattle.std.specs.Prelude.{◌≡◌, ◌≤◌, ◌<◌, length};
 ghost use Rattle.model.specs.Passes.{Passes, nodes};
-ghost use Rattle.arena.specs.Owners.{Listed, NodeThere, Leads};
+ghost use Rattle.arena.specs.Owners.{Leads};
 ghost use Rattle.draw.specs.Holds.{Holds};
-ghost use Rattle.draw.specs.Blocks.{Run, Narrow};
 
-use super::blocks::{BLOCKS, Block, Held, LISTS};
-use super::cells::Widths;
-use super::{blocks, cells, marks};
-use answers::Named;
-use arena::{Index, Path, Slot};
-use script::Text;
+use super::blocks::{Block, Held, LISTS, View};
+use super::cells::{Row, Widths, digits};
+use super::marks::{Free, Heading, LeftOut};
+use arena::{Path, Slot};
 
 // What is left of 80 columns for the nodes; a row's name, the head and its end take the others.
 const ROOM: u32 = 62;
+
+// A node takes four columns at least.
+type Part<'a> = Block<'a, 15>;
 
 // The rows below the levels.
 #[derive(Clone, Copy)]
@@ -25,169 +25,126 @@ pub enum Foot {
 }
 
 // A level's cell at an index, between the links held before it and behind it.
-fn level_cell(t: Text, d: Widths, arrived: bool, before: Held, behind: Held, key: u32) -> Text
-    requires { Narrow d }
-{
+fn level_cell(row: &mut Row, arrived: bool, before: Held, behind: Held, key: u32) {
     if arrived {
-        return cells::label(cells::arrow(t, d, before.far), d, key, behind.far != 0);
+        row.arrow(before.far);
+        row.label(key, behind.goes_on());
+    } else {
+        row.past(before.goes_on());
     }
-    cells::past(t, d, before.far != 0)
 }
 
-fn level(w: &[u32], m: usize, b: Block, d: Widths, l: usize, held: Held)
-    requires { Run w.now m b × Narrow d × (l < m) × Holds w.now b.list.0 l b.first held }
+fn level(out: &impl Print, b: Part<'_>, d: Widths, l: usize, held: Held)
+    requires { (l < b.list.levels) × Holds b.list.words.now b.list.head.0 l b.first held }
 {
-    let mut t = cells::lead(cells::level_name(l), b.first == 0, held.far != 0);
+    let mut row = Row::of_level(d, l);
+    row.lead(b.at_head(), held.goes_on());
     let mut before = held;
-    let mut i = b.first;
-    while i < b.past {
-        let behind = blocks::held_behind(w, m, b.list, i, l, before);
-        let key = blocks::key_at(w, m, b.list, i);
-        t = level_cell(t, d, blocks::arrives(before, i), before, behind, key);
+    for i in b.first..b.past {
+        let behind = b.list.held_behind(i, l, before);
+        level_cell(&mut row, before.arrives(i), before, behind, b.list.key_at(i));
         before = behind;
-        i += 1;
     }
-    cells::end(t, before.far != 0);
+    row.end(out, before.goes_on());
 }
 
 // From the highest level down to 0.
-fn levels(w: &[u32], m: usize, b: Block, d: Widths, path: Path)
-    requires { Run w.now m b × Narrow d × Leads w.now m b.list.0 b.first path }
+fn levels(out: &impl Print, b: Part<'_>, d: Widths, path: Path)
+    requires { Leads b.list.words.now b.list.levels b.list.head.0 b.first path }
 {
-    let mut stage = m;
-    while 0 < stage {
-        let l = stage - 1;
-        level(
-            w,
-            m,
-            b,
-            d,
-            l,
-            blocks::held_before(w, m, b.list, b.first, path, l),
-        );
-        stage = l;
+    for l in (0..b.list.levels).rev() {
+        level(out, b, d, l, b.list.held_before(b.first, path, l));
     }
 }
 
-fn foot_lead(b: Block, row: Foot) -> Text {
-    let at_head = b.first == 0;
-    match row {
-        Foot::Next => cells::lead(Text::new().bytes(b"next     "), at_head, true),
-        Foot::Indexes => Text::new().bytes(b"index         "),
-        Foot::Slots => cells::slots_lead(at_head, b.list.0),
+fn foot_lead(b: Part<'_>, d: Widths, foot: Foot) -> Row {
+    let mut row = Row::new(d, match foot {
+        Foot::Next => "next",
+        Foot::Indexes => "index",
+        Foot::Slots => "slot",
+    });
+    match foot {
+        Foot::Next => row.lead(b.at_head(), true),
+        Foot::Slots if b.at_head() => row.slot(b.list.head.0),
+        _ => row.lead(false, false),
     }
+    row
 }
 
-fn foot_cell(w: &[u32], m: usize, b: Block, d: Widths, row: Foot, i: u32, t: Text) -> Text
-    requires { NodeThere w.now m b.list.0 i × Narrow d }
+fn foot_cell(row: &mut Row, b: Part<'_>, foot: Foot, i: u32)
+    requires { i < length (nodes b.list.words.now b.list.head.0) }
 {
-    match row {
+    match foot {
         Foot::Next => {
-            let key = blocks::key_at(w, m, b.list, i);
-            cells::label(cells::step(t, d), d, key, i + 1 < b.count)
+            row.step();
+            row.label(b.list.key_at(i), i + 1 < b.list.len());
         }
-        Foot::Indexes => cells::label(cells::gap(t, d), d, i, false),
+        Foot::Indexes => {
+            row.gap();
+            row.label(i, false);
+        }
         Foot::Slots => {
-            let s = blocks::slot_at(w, m, b.list, i);
-            cells::label(cells::gap(t, d), d, s.0, false)
+            row.gap();
+            row.label(b.list.slot_at(i).0, false);
         }
     }
 }
 
-fn goes_on(b: Block, row: Foot) -> bool {
-    match row {
-        Foot::Next => b.past < b.count,
-        _ => false,
+fn foot_row(out: &impl Print, b: Part<'_>, d: Widths, foot: Foot) {
+    let mut row = foot_lead(b, d, foot);
+    for i in b.first..b.past {
+        foot_cell(&mut row, b, foot, i);
+    }
+    row.end(out, matches!(foot, Foot::Next) && b.goes_on());
+}
+
+fn block(out: &impl Print, b: Part<'_>, d: Widths) {
+    if !b.at_head() {
+        let _ = println!(out);
+    }
+    levels(out, b, d, b.list.path(b.first));
+    foot_row(out, b, d, Foot::Next);
+    foot_row(out, b, d, Foot::Indexes);
+    foot_row(out, b, d, Foot::Slots);
+}
+
+fn widest(list: View<'_>) -> Widths
+    requires { 0 < length (nodes list.words.now list.head.0) }
+{
+    let n = list.len();
+    Widths {
+        far: digits(n),
+        label: digits(list.key_at(n - 1)).max(digits(list.slots())),
     }
 }
 
-fn foot_row(w: &[u32], m: usize, b: Block, d: Widths, row: Foot)
-    requires { Run w.now m b × Narrow d }
-{
-    let mut t = foot_lead(b, row);
-    let mut i = b.first;
-    while i < b.past {
-        t = foot_cell(w, m, b, d, row, i, t);
-        i += 1;
+// The blocks of a list that has keys, one at least.
+fn cut(out: &impl Print, list: View<'_>, d: Widths) {
+    let room = ROOM / (d.far + d.label + 4) as u32;
+    for b in list.blocks(room) {
+        block(out, b, d);
     }
-    cells::end(t, goes_on(b, row));
+    let more = list.left_out(room);
+    if 0 < more {
+        let _ = println!(out; "{}", LeftOut(more));
+    }
 }
 
-fn block(w: &[u32], m: usize, b: Block, d: Widths)
-    requires { Run w.now m b × Narrow d }
-{
-    if 0 < b.first {
-        io::write_all(1, b"\n");
+fn list(out: &impl Print, list: View<'_>) {
+    let _ = println!(out; "{}", Heading(list));
+    if 0 < list.len() {
+        cut(out, list, widest(list));
     }
-    let path = rank_walk::seek(w, m, b.list, Index(b.first));
-    levels(w, m, b, d, path);
-    foot_row(w, m, b, d, Foot::Next);
-    foot_row(w, m, b, d, Foot::Indexes);
-    foot_row(w, m, b, d, Foot::Slots);
+    let _ = println!(out);
 }
 
-fn widest(w: &[u32], m: usize, list: Slot, n: u32) -> Widths
-    requires { Listed w.now m list.0 × (0 < n) × (n ≡ length (nodes w.now list.0)) }
-    ensures { Narrow result }
+pub fn arena(out: &impl Print, w: &[u32])
+    requires { Passes w.now }
 {
-    let key = cells::digits(blocks::key_at(w, m, list, n - 1));
-    let slot = cells::digits(blocks::slots(w));
-    let far = cells::digits(n);
-    if key < slot {
-        return Widths { far, label: slot };
-    }
-    Widths { far, label: key }
-}
-
-// The blocks of a list of n keys, one at least.
-fn cut(w: &[u32], m: usize, list: Slot, n: u32, d: Widths)
-    requires { Listed w.now m list.0 × (n ≡ length (nodes w.now list.0)) × Narrow d }
-{
-    let room = ROOM / (d.far + d.label + 4);
-    let mut first: u32 = 0;
-    let mut k: u32 = 0;
-    while k < BLOCKS {
-        if first == n {
-            return;
+    for a in 0..LISTS {
+        if let Some(one) = View::of(w, Slot(a)) {
+            list(out, one);
         }
-        let past = blocks::end_of(first, room, n);
-        let b = Block {
-            list,
-            first,
-            past,
-            count: n,
-        };
-        block(w, m, b, d);
-        first = past;
-        k += 1;
     }
-    if first < n {
-        marks::left_out(Text::new(), n - first).byte(b'\n').print();
-    }
-}
-
-fn list(w: &[u32], list: Slot)
-    requires { Passes w.now }
-{
-    let m = match answers::one_list(w, list) {
-        Named::Levels(m) => m,
-        Named::Refused(_) => return,
-    };
-    let n = rank_walk::length(w, m, list);
-    marks::heading(Text::new(), list.0, n).byte(b'\n').print();
-    if 0 < n {
-        cut(w, m, list, n, widest(w, m, list, n));
-    }
-    io::write_all(1, b"\n");
-}
-
-pub fn arena(w: &[u32])
-    requires { Passes w.now }
-{
-    let mut a: u32 = 0;
-    while a < LISTS {
-        list(w, Slot(a));
-        a += 1;
-    }
-    marks::free(w, Text::new()).byte(b'\n').print();
+    let _ = println!(out; "{}", Free::of(w));
 }

@@ -1,17 +1,14 @@
 // An arena as SVG: its lists one below the other, each cut into blocks.
-ghost use Rattle.std.specs.Prelude.{◌≡◌, ◌≤◌, length};
-ghost use Rattle.model.specs.Passes.{Passes, nodes};
-ghost use Rattle.arena.specs.Owners.{Listed};
+ghost use Rattle.std.specs.Prelude.{◌≤◌};
+ghost use Rattle.model.specs.Passes.{Passes};
 
-use super::blocks::{BLOCKS, Block, LISTS};
-use super::{blocks, boxes, marks, svg};
-use answers::Named;
+use super::blocks::{BLOCKS, LISTS, View};
+use super::boxes::ROOM;
+use super::marks::{Free, Heading, LeftOut};
+use super::{boxes, svg};
 use arena::Slot;
-use script::Text;
 
-// The nodes of a block, at most; the height of a line of words.
-const ROOM: u32 = 10;
-
+// The height of a line of words.
 const WORDS: u32 = 32;
 
 // How many columns the picture has behind the head's, and how high it is.
@@ -21,60 +18,29 @@ pub struct Size {
     pub height: u32,
 }
 
-// Of a block of an arena of m levels.
-fn block_height(m: usize) -> u32
-    requires { m ≤ 16 }
+// Of a block.
+fn block_height(list: View<'_>) -> u32
     ensures { result ≤ 560 }
 {
-    svg::ROW * (m as u32 + 3) + 16
+    svg::ROW * (list.levels as u32 + 3) + 16
 }
 
-// The blocks of a list of n keys.
-fn blocks_of(n: u32) -> u32
-    ensures { result ≤ 16 }
-{
-    if n <= BLOCKS * ROOM {
-        return (n + (ROOM - 1)) / ROOM;
-    }
-    BLOCKS
-}
-
-fn tail_height(n: u32) -> u32
+// Of the line that says how many keys are left out.
+fn tail_height(list: View<'_>) -> u32
     ensures { result ≤ 32 }
 {
-    if n <= BLOCKS * ROOM {
-        return 0;
-    }
-    WORDS
+    if 0 < list.left_out(ROOM) { WORDS } else { 0 }
 }
 
-// Of a list, if it is there.
-fn list_size(w: &[u32], list: Slot) -> Size
-    requires { Passes w.now }
+fn list_size(list: View<'_>) -> Size
     ensures { (result.columns ≤ 10) × (result.height ≤ 9024) }
 {
-    let m = match answers::one_list(w, list) {
-        Named::Levels(m) => m,
-        Named::Refused(_) => return Size {
-            columns: 0,
-            height: 0,
-        },
-    };
-    let n = rank_walk::length(w, m, list);
+    let n = list.len();
+    let blocks = n.div_ceil(ROOM).min(BLOCKS);
     Size {
-        columns: blocks::end_of(0, ROOM, n),
-        height: WORDS + blocks_of(n) * block_height(m) + tail_height(n),
+        columns: n.min(ROOM),
+        height: WORDS + blocks * block_height(list) + tail_height(list),
     }
-}
-
-fn wider(a: u32, b: u32) -> u32
-    requires { (a ≤ 10) × (b ≤ 10) }
-    ensures { result ≤ 10 }
-{
-    if a < b {
-        return b;
-    }
-    a
 }
 
 // Of all lists.
@@ -82,79 +48,51 @@ fn whole_size(w: &[u32]) -> Size
     requires { Passes w.now }
     ensures { (result.columns ≤ 10) × (result.height ≤ 144384) }
 {
-    let mut whole = Size {
-        columns: 0,
-        height: 0,
-    };
-    let mut a: u32 = 0;
-    while a < LISTS {
-        let one = list_size(w, Slot(a));
-        whole = Size {
-            columns: wider(whole.columns, one.columns),
-            height: whole.height + one.height,
-        };
-        a += 1;
-    }
-    whole
-}
-
-// The blocks of a list of n keys from a height on.
-fn cut(w: &[u32], m: usize, list: Slot, n: u32, top: u32)
-    requires { Listed w.now m list.0 × (n ≡ length (nodes w.now list.0)) × (top ≤ 200000) }
-{
-    let h = block_height(m);
-    let mut y = top;
-    let mut first: u32 = 0;
-    let mut k: u32 = 0;
-    while k < BLOCKS {
-        if first == n {
-            return;
+    let mut columns = 0;
+    let mut height = 0;
+    for a in 0..LISTS {
+        if let Some(list) = View::of(w, Slot(a)) {
+            let one = list_size(list);
+            columns = one.columns.max(columns);
+            height += one.height;
         }
-        let past = blocks::end_of(first, ROOM, n);
-        let b = Block {
-            list,
-            first,
-            past,
-            count: n,
-        };
-        boxes::block(w, m, b, y);
-        first = past;
-        y += h;
-        k += 1;
     }
-    if first < n {
-        svg::heading(y);
-        svg::words(marks::left_out(Text::new(), n - first));
-    }
+    Size { columns, height }
 }
 
-fn list(w: &[u32], list: Slot, y: u32)
-    requires { Passes w.now × (y ≤ 150000) }
+// The blocks of a list from a height on.
+fn cut(out: &impl Print, list: View<'_>, top: u32)
+    requires { top ≤ 200000 }
 {
-    let m = match answers::one_list(w, list) {
-        Named::Levels(m) => m,
-        Named::Refused(_) => return,
-    };
-    let n = rank_walk::length(w, m, list);
-    svg::heading(y);
-    svg::words(marks::heading(Text::new(), list.0, n));
-    cut(w, m, list, n, y + WORDS);
+    let h = block_height(list);
+    for b in list.blocks(ROOM) {
+        boxes::block(out, b, top + b.first / ROOM * h);
+    }
+    let more = list.left_out(ROOM);
+    if 0 < more {
+        svg::words(out, top + BLOCKS * h, LeftOut(more));
+    }
 }
 
-pub fn arena(w: &[u32])
+fn list(out: &impl Print, list: View<'_>, y: u32)
+    requires { y ≤ 150000 }
+{
+    svg::words(out, y, Heading(list));
+    cut(out, list, y + WORDS);
+}
+
+pub fn arena(out: &impl Print, w: &[u32])
     requires { Passes w.now }
 {
     let whole = whole_size(w);
-    svg::open(whole.columns, whole.height + WORDS);
-    let mut y: u32 = 0;
-    let mut a: u32 = 0;
-    while a < LISTS {
-        let one = list_size(w, Slot(a));
-        list(w, Slot(a), y);
-        y += one.height;
-        a += 1;
+    svg::open(out, whole.columns, whole.height + WORDS);
+    let mut y = 0;
+    for a in 0..LISTS {
+        if let Some(one) = View::of(w, Slot(a)) {
+            list(out, one, y);
+            y += list_size(one).height;
+        }
     }
-    svg::heading(y);
-    svg::words(marks::free(w, Text::new()));
-    svg::close();
+    svg::words(out, y, Free::of(w));
+    svg::close(out);
 }

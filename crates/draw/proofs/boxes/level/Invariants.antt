@@ -1,10 +1,7 @@
 -- `draw::boxes::level` is safe: a block has at most ten columns, and the held link leaves an owner before the index.
-use Prim.Native.Nat.{◌-◌, ◌≤◌}
+use Prim.Native.Nat.{◌≤◌}
 use Rattle.draw.specs.Holds.{Holds}
 use Rattle.draw.proofs.boxes.level.Given as goal
 
 abbrev pub invariant-loop-i : goal.invariant-loop-i
-invariant-loop-i l = Holds l.w l.b.list.0 l.l l.i l.before × (l.b.first ≤ l.i) × (l.i ≤ l.b.past) × (l.row ≤ 15)
-
-abbrev pub decreases-loop-i : goal.decreases-loop-i
-decreases-loop-i l = l.b.past - l.i
+invariant-loop-i g l = Holds l.b.list.words.now l.b.list.head.0 l.l l.i l.before × (l.row ≤ 15)

@@ -1,8 +1,0 @@
--- `draw::rows::foot_cell` is safe: a list has few nodes.
-use native.Mathlib.Omega.{arith}
-use Rattle.draw.proofs.Drawing.{few}
-use Rattle.draw.proofs.rows.foot_cell.Goals as goal
-
-pub overflow_add-i : goal.overflow_add-i
-overflow_add-i c =
-    omega (arith, few c.requires.0)
