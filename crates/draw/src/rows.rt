@@ -42,7 +42,13 @@ fn level(out: &impl Print, b: Part<'_>, d: Widths, l: usize, held: Held)
     let mut before = held;
     for i in b.first..b.past {
         let behind = b.list.held_behind(i, l, before);
-        level_cell(&mut row, before.arrives(i), before, behind, b.list.key_at(i));
+        level_cell(
+            &mut row,
+            before.arrives(i),
+            before,
+            behind,
+            b.list.key_at(i),
+        );
         before = behind;
     }
     row.end(out, before.goes_on());
@@ -58,11 +64,14 @@ fn levels(out: &impl Print, b: Part<'_>, d: Widths, path: Path)
 }
 
 fn foot_lead(b: Part<'_>, d: Widths, foot: Foot) -> Row {
-    let mut row = Row::new(d, match foot {
-        Foot::Next => "next",
-        Foot::Indexes => "index",
-        Foot::Slots => "slot",
-    });
+    let mut row = Row::new(
+        d,
+        match foot {
+            Foot::Next => "next",
+            Foot::Indexes => "index",
+            Foot::Slots => "slot",
+        },
+    );
     match foot {
         Foot::Next => row.lead(b.at_head(), true),
         Foot::Slots if b.at_head() => row.slot(b.list.head.0),

@@ -42,7 +42,9 @@ pub fn leaves(out: &impl Print, from: u32, last: u32, row: u32)
     requires { Placed from row × Placed last row }
 {
     let (x1, x2, y) = (left(from) + BOX, left(last) + STEP, middle(row));
-    let _ = println!(out; r#"<line x1="{x1}" y1="{y}" x2="{x2}" y2="{y}" stroke-dasharray="4 3"/>"#);
+    let _ = println!(out;
+        r#"<line x1="{x1}" y1="{y}" x2="{x2}" y2="{y}" stroke-dasharray="4 3"/>"#
+    );
 }
 
 // The distance of a link, above its end.
@@ -90,7 +92,9 @@ pub fn words(out: &impl Print, y: u32, what: impl Display + Drop)
     requires { y ≤ 300000 }
 {
     let y = y + 20;
-    let _ = println!(out; r#"<text x="8" y="{y}" text-anchor="start" font-weight="bold">{what}</text>"#);
+    let _ = println!(out;
+        r#"<text x="8" y="{y}" text-anchor="start" font-weight="bold">{what}</text>"#
+    );
 }
 
 pub fn open_group(out: &impl Print, y: u32) {
@@ -106,8 +110,7 @@ pub fn open(out: &impl Print, columns: u32, height: u32)
     requires { columns ≤ 10 }
 {
     let width = left(columns) + STEP;
-    let _ = println!(
-        out;
+    let _ = println!(out;
         r#"<svg xmlns="http://www.w3.org/2000/svg" version="1.1" width="{width}" height="{height}" viewBox="0 0 {width} {height}">"#
     );
     styles(out);
