@@ -4,7 +4,7 @@ use Rattle.std.specs.Coded.{×_prop, Unit-prop, le_prop}
 use denote.Struct.Props.{props}
 use Rattle.model.specs.Nodes.{Node, Above, Sorted, Low}
 use Rattle.model.specs.Arena.{State, encode}
-use Rattle.model.specs.Passes.{decode, Each, Sound, Ranges, Sizes, Passes, times_all, times_free}
+use Rattle.model.specs.Passes.{decode, Each, Sound, Ranges, Passes, times_all, times_free}
 use Rattle.arena.specs.Owners.{Listed}
 
 Above-once : (t : ℕ) (xs : List Node) → IsProp (Above t xs)

@@ -28,8 +28,8 @@ pub struct View<'a> {
     pub ghost few: { length (nodes words.now head.0) ≤ 65535 },
 }
 
-// The link that is held just before an index: it leaves the rank `from`, before the index, and leads `far` ranks on. No `Option`: where there is
-// none, `far` is 0, as document 01 has it, and `Holds` says of that link too which rank it leaves.
+// The link that is held just before an index: it leaves the rank `from`, before the index, and leads `far` ranks on; 0 if there is none.
+// No `Option`: `Holds` says of an absent link too which owner it leaves, and 0 is document 01's distance of one.
 #[derive(Clone, Copy)]
 pub struct Held {
     pub from: u32,

@@ -14,7 +14,7 @@ ghost use Rattle.draw.specs.Forms.{form_of};
 
 use script_line::{Line, Runner, Script};
 
-// The names of the forms: numbers, as `script_line` reads a name.
+// The names of the forms. Numbers and not letters: so `script_line` reads a name, and `form_of` in specs/ spells each of them.
 const TEXT: u64 = 661268;
 
 const SVG: u64 = 20167;
