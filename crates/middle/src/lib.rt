@@ -12,7 +12,7 @@ use arena::{Index, Key, Slot};
 fn sum(a: Key, b: Key) -> u64
     ensures { (result ≡ a + b) × (result ≤ 2 * 4294967295) }
 {
-    a as u64 + b as u64
+    u64::from(a) + u64::from(b)
 }
 
 // Twice the median: the key at index floor((length - 1) / 2), and the next or, where the length is odd, the same again.
@@ -23,10 +23,11 @@ pub fn middle(w: &[u32], m: usize, list: Slot) -> u64
     let n = rank_walk::length(w, m, list);
     let s = rank_walk::at(w, m, list, Index((n - 1) / 2));
     let lower = arena::key_at(w, m, s);
-    if n % 2 == 1 {
-        return sum(lower, lower);
-    }
-    let next = arena::cell(w, m, s, arena::NEXT);
-    let upper = arena::key_at(w, m, Slot(next));
+    let upper = if n % 2 == 1 {
+        lower
+    } else {
+        let next = Slot(arena::cell(w, m, s, arena::NEXT));
+        arena::key_at(w, m, next)
+    };
     sum(lower, upper)
 }
