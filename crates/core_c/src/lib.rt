@@ -10,9 +10,8 @@ ghost use Rattle.model.specs.Passes.{decode, nodes};
 ghost use Rattle.arena.specs.Owners.{Listed, NodeThere, TwoLists};
 ghost use Rattle.split.specs.Splits.{Splits};
 
-use answers::KeyAnswer;
+use answers::Searched;
 use arena::{Index, Slot};
-use key_walk::Searched;
 
 // The index or the place; 0 where the allowance is not enough.
 #[unsafe(no_mangle)]
@@ -21,9 +20,8 @@ pub extern "C" fn core_search(w: &[u32], m: usize, list: u32, key: u32, allowanc
     ensures { result ≡ (answer_to (decode w.now) (search list key allowance)).place }
 {
     match key_walk::search(w, m, Slot(list), key, allowance) {
-        Searched::Found(i, _) => i.0,
-        Searched::Missing(i, _) => i.0,
-        Searched::Beyond(_) => 0,
+        Ok(Searched::Found(i, _) | Searched::Missing(i, _)) => i.0,
+        Err(_) => 0,
     }
 }
 
@@ -49,10 +47,7 @@ pub extern "C" fn core_remove_key(w: &mut [u32], m: usize, list: u32, key: u32) 
     requires { Listed w.old m list }
     ensures { (result ≡ (answer_to (decode w.old) (remove_key list key)).key) × (w.new ≡ encode (result_of (decode w.old) (remove_key list key))) }
 {
-    match checked_changing::remove_key(w, Slot(list), key) {
-        KeyAnswer::Is(k) => k,
-        KeyAnswer::Refused(_) => 0,
-    }
+    checked_changing::remove_key(w, Slot(list), key).unwrap_or(0)
 }
 
 #[unsafe(no_mangle)]

@@ -1,2 +1,1 @@
-mod Telling
 pub mod OneReturn

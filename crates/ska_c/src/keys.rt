@@ -3,6 +3,7 @@ ghost use Rattle.model.specs.Calls.{search, read, middle, remove_key, remove_ind
 ghost use Rattle.ska_c.specs.Returned.{with_key, with_place};
 
 use arena::{Index, Slot};
+use numbers::{Numbers, Valued};
 
 #[unsafe(no_mangle)]
 pub extern "C" fn ska_search(
@@ -16,7 +17,7 @@ pub extern "C" fn ska_search(
 ) -> u32
     ensures { Promise (search list key allowance) w.now w.now (with_place result found.new place.new tally.new) }
 {
-    let n = numbers::of_search(ska::search(w, Slot(list), key, allowance));
+    let n = Numbers::from(ska::search(w, Slot(list), key, allowance));
     *found = n.found;
     *place = n.place;
     *tally = n.tally;
@@ -27,8 +28,8 @@ pub extern "C" fn ska_search(
 pub extern "C" fn ska_read(w: &[u32], list: u32, index: u32, key: &mut u32) -> u32
     ensures { Promise (read list index) w.now w.now (with_key result key.new) }
 {
-    let n = numbers::of_key(ska::read(w, Slot(list), Index(index)));
-    *key = n.key;
+    let n = Valued::from(ska::read(w, Slot(list), Index(index)));
+    *key = n.value;
     n.number
 }
 
@@ -36,8 +37,8 @@ pub extern "C" fn ska_read(w: &[u32], list: u32, index: u32, key: &mut u32) -> u
 pub extern "C" fn ska_middle(w: &[u32], list: u32, twice: &mut u64) -> u32
     ensures { Promise (middle list) w.now w.now (with_key result twice.new) }
 {
-    let n = numbers::of_middle(ska::middle(w, Slot(list)));
-    *twice = n.twice;
+    let n = Valued::from(ska::middle(w, Slot(list)));
+    *twice = n.value;
     n.number
 }
 
@@ -45,8 +46,8 @@ pub extern "C" fn ska_middle(w: &[u32], list: u32, twice: &mut u64) -> u32
 pub extern "C" fn ska_remove_key(w: &mut [u32], list: u32, key: u32, removed: &mut u32) -> u32
     ensures { Promise (remove_key list key) w.old w.new (with_key result removed.new) }
 {
-    let n = numbers::of_key(ska::remove_key(w, Slot(list), key));
-    *removed = n.key;
+    let n = Valued::from(ska::remove_key(w, Slot(list), key));
+    *removed = n.value;
     n.number
 }
 
@@ -54,7 +55,7 @@ pub extern "C" fn ska_remove_key(w: &mut [u32], list: u32, key: u32, removed: &m
 pub extern "C" fn ska_remove_at(w: &mut [u32], list: u32, index: u32, removed: &mut u32) -> u32
     ensures { Promise (remove_index list index) w.old w.new (with_key result removed.new) }
 {
-    let n = numbers::of_key(ska::remove_at(w, Slot(list), Index(index)));
-    *removed = n.key;
+    let n = Valued::from(ska::remove_at(w, Slot(list), Index(index)));
+    *removed = n.value;
     n.number
 }

@@ -3,12 +3,14 @@ ghost use Rattle.std.specs.Prelude.{◌≡◌};
 ghost use Rattle.link.specs.Distances.{made, raised, lowered};
 ghost use Rattle.ska_c.specs.Returned.{with_distance};
 
+use numbers::Valued;
+
 #[unsafe(no_mangle)]
 pub extern "C" fn ska_link_make(d: u32, distance: &mut u32) -> u32
     ensures { with_distance result distance.new ≡ made d }
 {
-    let n = numbers::of_distance(ska::link_make(d));
-    *distance = n.distance;
+    let n = Valued::from(ska::link_make(d));
+    *distance = n.value;
     n.number
 }
 
@@ -16,8 +18,8 @@ pub extern "C" fn ska_link_make(d: u32, distance: &mut u32) -> u32
 pub extern "C" fn ska_link_raise(d: u32, distance: &mut u32) -> u32
     ensures { with_distance result distance.new ≡ raised d }
 {
-    let n = numbers::of_distance(ska::link_raise(d));
-    *distance = n.distance;
+    let n = Valued::from(ska::link_raise(d));
+    *distance = n.value;
     n.number
 }
 
@@ -25,7 +27,7 @@ pub extern "C" fn ska_link_raise(d: u32, distance: &mut u32) -> u32
 pub extern "C" fn ska_link_lower(d: u32, distance: &mut u32) -> u32
     ensures { with_distance result distance.new ≡ lowered d }
 {
-    let n = numbers::of_distance(ska::link_lower(d));
-    *distance = n.distance;
+    let n = Valued::from(ska::link_lower(d));
+    *distance = n.value;
     n.number
 }
