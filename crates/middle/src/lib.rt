@@ -23,11 +23,10 @@ pub fn middle(w: &[u32], m: usize, list: Slot) -> u64
     let n = rank_walk::length(w, m, list);
     let s = rank_walk::at(w, m, list, Index((n - 1) / 2));
     let lower = arena::key_at(w, m, s);
-    let upper = if n % 2 == 1 {
-        lower
-    } else {
-        let next = Slot(arena::cell(w, m, s, arena::NEXT));
-        arena::key_at(w, m, next)
-    };
+    if n % 2 == 1 {
+        return sum(lower, lower);
+    }
+    let next = arena::cell(w, m, s, arena::NEXT);
+    let upper = arena::key_at(w, m, Slot(next));
     sum(lower, upper)
 }
