@@ -1,6 +1,7 @@
 -- What `Valued` tells of a key, of twice a median, of a call that answers nothing more, of set-up and of a distance is what document 01 says of each.
 -- Rests on specs/Read.
 use Prim.Native.Nat.{ℕ}
+use mathlib.Core.Path.{ap, ◌∙◌}
 use Rattle.std.specs.Prelude.{◌≡◌, Result, Ok, Err, ⊤}
 use Rattle.link.specs.Distances.{Told, told}
 use Rattle.link.specs.declared.LinkError.{LinkError}
@@ -27,8 +28,11 @@ pub setup_as_told : (a : Result ⊤ WrongSizes) {n : Valued ⊤} → Tells (λ _
 setup_as_told (Ok _) (e, f) = e
 setup_as_told (Err _) (e, f) = e
 
+abbrev with : ℕ → ℕ → Told
+with r d = record { number = r; distance = d }
+
 same_told : {t : Told} {n : Valued ℕ} → n.number ≡ t.number → n.value ≡ t.distance → distance_of n ≡ t
-same_told e f = cc
+same_told {t} {n} e f = ap (λ (x : ℕ). with x n.value) e ∙ ap (λ (y : ℕ). with t.number y) f
 
 pub distance_as_told : (a : Result ℕ LinkError) {n : Valued ℕ} → Tells (λ x. x ≡ 0) (λ e. (told (Err e)).number) a n → distance_of n ≡ told a
 distance_as_told (Ok d) (e, f) = same_told e f
