@@ -2,126 +2,91 @@
 // A text that cannot be read to its end, or a report that cannot be written, is told by one line on standard error.
 #![tactic(auto)]
 
-ghost use Rattle.std.specs.Prelude.{◌≤◌, ◌≡◌, length, take};
+ghost use Rattle.std.specs.Prelude.{◌≤◌, length, take};
 ghost use Rattle.io.specs.Counts.{IsPrefixLen};
-ghost use Rattle.shift_feed.specs.Feeds.{empty};
-ghost use Rattle.report.specs.declared.Input.TheVariants.{Open, Ended};
-ghost use Rattle.report.specs.Texts.{Onward, Begun, Whole};
+ghost use Rattle.report.specs.Texts.{Begun, Whole};
+ghost use Rattle.report.specs.Reads.{Took, TookAll};
 
 use shift::Desk;
-use std::alloc::Global;
 use std::env;
 use std::fs::File;
 use std::io::{Error, ErrorKind, Read, Write};
 
-// Standard error.
-const STDERR: i32 = 2;
-
 // A proved loop has to end, and nothing says that the input does: reads and bytes count up to this number, which no run reaches.
 const MOST: u64 = u64::MAX - 65537;
 
-// What a read found: a piece of the text, its end, or a fault, which has been told.
+// A fault of a read, which has been told.
 #[derive(Clone, Copy)]
-pub enum Input {
-    Open,
-    Ended,
-    Failed,
-}
-
-// What was read: the desk behind it, what the last read found, and how many reads and bytes it took.
-#[derive(Clone, Copy)]
-pub struct Taken {
-    pub desk: Desk,
-    pub input: Input,
-    pub spent: u64,
-}
+struct Told;
 
 // A fault's text without the number that std writes behind it, as in "Is a directory (os error 21)".
 fn text_of(said: &str) -> &str {
-    match said.split_once(" (os error ") {
-        Some((text, _)) => text,
-        None => said,
-    }
+    said.split_once(" (os error ")
+        .map_or(said, |(text, _)| text)
 }
 
 // Tells what failed, and why.
-fn fail(alloc: Global, what: &[u8], why: &Error) {
-    io::write_all(STDERR, b"report: ");
-    io::write_all(STDERR, what);
-    io::write_all(STDERR, b": ");
-    match format!(in alloc; "{why}") {
-        Ok(said) => {
-            io::write_all(STDERR, text_of(said.as_str()).as_bytes());
-        }
-        Err(_) => {
-            io::write_all(STDERR, b"Cannot allocate memory");
-        }
-    }
-    io::write_all(STDERR, b"\n");
+fn fail(rt: &HostRuntime, what: &str, why: &Error) {
+    let said = format!(in rt.alloc(); "{why}");
+    let text = match &said {
+        Ok(said) => text_of(said.as_str()),
+        Err(_) => "Cannot allocate memory",
+    };
+    let _ = eprintln!(rt; "report: {what}: {text}");
 }
 
 // A read that a signal broke off is made again.
-fn fault(alloc: Global, name: &[u8], why: &Error) -> Input {
+fn fault(rt: &HostRuntime, name: &str, why: &Error) -> Result<(), Told> {
     if why.kind() == ErrorKind::Interrupted {
-        return Input::Open;
+        return Ok(());
     }
-    fail(alloc, name, why);
-    Input::Failed
+    fail(rt, name, why);
+    Err(Told)
 }
 
-// Takes what has arrived.
-fn piece<R: Read>(alloc: Global, words: &mut [u32], desk: Desk, from: &mut R, name: &[u8]) -> Taken
-    ensures { Onward result.spent desk words.old result.desk words.new × (1 ≤ result.spent) × (result.spent ≤ 65537) }
+// Takes what has arrived: how many reads and bytes that took, or none at the end of the text.
+fn piece<R: Read>(
+    rt: &HostRuntime,
+    words: &mut [u32],
+    desk: &mut Desk,
+    from: &mut R,
+    name: &str,
+) -> Result<Option<u64>, Told>
+    ensures { Took result desk.old words.old desk.new words.new }
 {
     let mut buffer = io::large_buffer();
     let n = match from.read(&mut buffer) {
         Ok(n) => n,
         Err(e) => {
-            let input = fault(alloc, name, &e);
-            return Taken {
-                desk,
-                input,
-                spent: 1,
-            };
+            fault(rt, name, &e)?;
+            return Ok(Some(1));
         }
     };
     if n == 0 {
-        return Taken {
-            desk,
-            input: Input::Ended,
-            spent: 1,
-        };
+        return Ok(None);
     }
-    let fed = shift::feed(words, desk, &buffer[..n]);
-    Taken {
-        desk: fed,
-        input: Input::Open,
-        spent: n as u64 + 1,
-    }
+    *desk = shift::feed(words, *desk, &buffer[..n]);
+    Ok(Some(n as u64 + 1))
 }
 
-// Takes piece after piece, to the end of the text or a fault.
-fn pieces<R: Read>(alloc: Global, words: &mut [u32], from: &mut R, name: &[u8]) -> Taken
-    ensures onward { Onward result.spent empty words.old result.desk words.new }
-    ensures le_spent { result.input ≡ Open → 18446744073709486078 ≤ result.spent }
+// Takes piece after piece: the desk at the end of the text, or none if so much was read before it.
+fn pieces<R: Read>(
+    rt: &HostRuntime,
+    words: &mut [u32],
+    from: &mut R,
+    name: &str,
+) -> Result<Option<Desk>, Told>
+    ensures { TookAll result words.old words.new }
 {
     let mut desk = Desk::new();
     let mut spent: u64 = 0;
     while spent < MOST {
-        let taken = piece(alloc, words, desk, from, name);
-        desk = taken.desk;
-        spent += taken.spent;
-        let input = taken.input;
-        match input {
-            Input::Open => {}
-            _ => return Taken { desk, input, spent },
+        match piece(rt, words, &mut desk, from, name)? {
+            Some(n) => spent += n,
+            None => return Ok(Some(desk)),
         }
     }
-    Taken {
-        desk,
-        input: Input::Open,
-        spent,
-    }
+    Ok(None)
 }
 
 // The end of the text: the report at the front of the slice, and its length.
@@ -138,40 +103,33 @@ fn write(rt: &HostRuntime, report: &[u8])
     requires { Whole report.now }
 {
     let mut out = rt.stdout();
-    match out.write_all(report) {
-        Ok(()) => {}
-        Err(e) => fail(rt.alloc(), b"standard output", &e),
+    if let Err(e) = out.write_all(report) {
+        fail(rt, "standard output", &e);
     }
 }
 
 // A text that was read to its end is reported.
-fn print(rt: &HostRuntime, words: &mut [u32], taken: Taken)
-    requires { Begun taken.desk words.old × (taken.input ≡ Ended) }
+fn print(rt: &HostRuntime, words: &mut [u32], desk: Desk)
+    requires { Begun desk words.old }
 {
     let mut out = [0u8; shift::ROOM];
-    let n = text(words, taken.desk, &mut out);
+    let n = text(words, desk, &mut out);
     write(rt, &out[..n]);
 }
 
 // Reports on what is read. A fault is told by the name.
-fn report<R: Read>(rt: &HostRuntime, from: &mut R, name: &[u8]) {
+fn report<R: Read>(rt: &HostRuntime, from: &mut R, name: &str) {
     let mut words = [0u32; shift::WORDS];
-    shift::set_up(&mut words);
-    let taken = pieces(rt.alloc(), &mut words, from, name);
-    let input = taken.input;
-    match input {
-        Input::Ended => print(rt, &mut words, taken),
-        _ => {}
+    let _ = shift::set_up(&mut words);
+    if let Ok(Some(desk)) = pieces(rt, &mut words, from, name) {
+        print(rt, &mut words, desk);
     }
 }
 
 fn named(rt: &HostRuntime, path: &str) {
     match File::open(rt, path) {
-        Ok(file) => {
-            let mut from = file;
-            report(rt, &mut from, path.as_bytes());
-        }
-        Err(e) => fail(rt.alloc(), path.as_bytes(), &e),
+        Ok(mut file) => report(rt, &mut file, path),
+        Err(e) => fail(rt, path, &e),
     }
 }
 
@@ -179,21 +137,18 @@ fn main(rt: HostRuntime) {
     let mut words = match env::args(&rt) {
         Ok(words) => words,
         Err(e) => {
-            fail(rt.alloc(), b"the file's name", &e);
+            fail(&rt, "the file's name", &e);
             return;
         }
     };
     let _ = words.next();
     let name = words.next();
     if words.next().is_some() {
-        io::write_all(STDERR, b"report: one file at a time\n");
+        let _ = eprintln!(rt; "report: one file at a time");
         return;
     }
     match name {
         Some(path) => named(&rt, path.as_str()),
-        None => {
-            let mut from = rt.stdin();
-            report(&rt, &mut from, b"standard input");
-        }
+        None => report(&rt, &mut rt.stdin(), "standard input"),
     }
 }

@@ -1,4 +1,4 @@
--- `report::piece` meets its contract: a fault and the end feed nothing, a piece is fed whole.
+-- `report::piece` meets its contract: a read that was broken off feeds nothing, a piece is fed whole.
 use native.Mathlib.Omega.{arith}
 use Rattle.report.proofs.Onwards.{nothing_read, piece-read}
 use Rattle.report.proofs.piece.Goals as goal
@@ -6,10 +6,7 @@ use Rattle.report.proofs.piece.Goals as goal
 pub returns-in-Err : goal.returns-in-Err
 returns-in-Err g c = (nothing_read 1, omega arith, omega arith)
 
-pub returns-then-n-eq0 : goal.returns-then-n-eq0
-returns-then-n-eq0 g c = (nothing_read 1, omega arith, omega arith)
-
 pub returns : goal.returns
 returns g c =
     let read = c.in-Ok.ensures.bound in
-    (piece-read _ read c.feed-fed.ensures, omega arith, omega (arith, read.0, c.large_buffer-buffer.ensures, c.read.auto.buf))
+    (piece-read _ read c.feed.ensures, omega arith, omega (arith, read.0, c.large_buffer-buffer.ensures, c.read.auto.buf))
