@@ -1,75 +1,49 @@
-// The answer lines.
-use answers::{KeyAnswer, MiddleAnswer, PlainAnswer, SearchAnswer};
-use link::Distance;
-use script::Text;
-use setup::Setup;
+// The answer lines. An output that is closed stops no call.
+use numbers::{Numbered, Numbers, Valued};
+use ska::{SearchError, Searched};
+use std::fmt;
 
-fn number(n: u32) {
-    Text::new().decimal(n).byte(b'\n').print();
+pub fn check(out: &impl Print, yes: bool) {
+    let _ = println!(out; "{}", numbers::of_check(yes));
 }
 
-fn pair(n: u32, value: u64) {
-    Text::new()
-        .decimal(n)
-        .byte(b' ')
-        .decimal_u64(value)
-        .byte(b'\n')
-        .print();
+// A call that answers nothing more answers its number alone.
+pub fn plain<E: Numbered>(out: &impl Print, a: Result<(), E>) {
+    let Valued { number, .. } = Valued::from(a);
+    let _ = println!(out; "{number}");
 }
 
-pub fn check(yes: bool) {
-    number(numbers::of_check(yes));
+pub fn valued<T: Copy + Default + fmt::Display, E: Numbered>(out: &impl Print, a: Result<T, E>) {
+    let Valued { number, value } = Valued::from(a);
+    let _ = println!(out; "{number} {value}");
 }
 
-pub fn setup(a: Setup) {
-    number(numbers::of_setup(a));
+pub fn search(out: &impl Print, a: Result<Searched, SearchError>) {
+    let Numbers {
+        number,
+        found,
+        place,
+        tally,
+    } = Numbers::from(a);
+    let _ = println!(out; "{number} {found} {place} {tally}");
 }
 
-pub fn distance(a: Distance) {
-    let n = numbers::of_distance(a);
-    pair(n.number, n.distance as u64);
-}
+#[derive(Drop)]
+struct Words<'a>(&'a [u32]);
 
-pub fn plain(a: PlainAnswer) {
-    number(numbers::of_plain(a));
-}
-
-pub fn key(a: KeyAnswer) {
-    let n = numbers::of_key(a);
-    pair(n.number, n.key as u64);
-}
-
-pub fn middle(a: MiddleAnswer) {
-    let n = numbers::of_middle(a);
-    pair(n.number, n.twice);
-}
-
-pub fn search(a: SearchAnswer) {
-    let n = numbers::of_search(a);
-    let start = Text::new().decimal(n.number).byte(b' ').decimal(n.found);
-    start
-        .byte(b' ')
-        .decimal(n.place)
-        .byte(b' ')
-        .decimal(n.tally)
-        .byte(b'\n')
-        .print();
-}
-
-// All words on one line, which is written as it grows.
-pub fn dump(words: &[u32]) {
-    let mut line = Text::new();
-    let mut i: usize = 0;
-    while i < words.len() {
-        if line.len > 64 {
-            line.print();
-            line = Text::new();
+impl fmt::Display for Words<'_> {
+    fn fmt<W: fmt::Write>(&self, f: &mut fmt::Formatter<W>) -> fmt::Result {
+        for (i, word) in self.0.iter().enumerate() {
+            if i > 0 {
+                write!(f, " ")?;
+            }
+            write!(f, "{word}")?;
         }
-        if i > 0 {
-            line = line.byte(b' ');
-        }
-        line = line.decimal(words[i]);
-        i += 1;
+        Ok(())
     }
-    line.byte(b'\n').print();
+}
+
+// All words on one line.
+pub fn dump(out: &impl Print, words: &[u32]) {
+    let _ = println!(out; "{}", Words(words));
 }
