@@ -69,7 +69,7 @@ pub fn by_rank(w: &[u32], m: usize, list: Slot, target: Rank) -> Reached
     requires { Listed w.now m list.0 }
     ensures { WalkedByRank w.now m list.0 target.0 result }
 {
-    if target.0 == Rank::HEAD.0 {
+    if target == Rank::HEAD {
         let path = Path {
             slots: [list; 16],
             ranks: [Rank::HEAD; 16],

@@ -1,14 +1,16 @@
 -- `rank_walk::index_mut::by_rank` meets its contract.
 -- What `seek` notes is what document 01's walk notes, whether it ends at the head, at a node or with none.
+use mathlib.Core.Path.{sym}
 use native.Mathlib.Omega.{arith}
+use borrow.Author.Tests.{eqb-true}
 use Rattle.model.specs.Arena.{next_column}
 use Rattle.walk.proofs.Standing.{at-rank, cell_here}
 use Rattle.rank_walk.proofs.Ranked.{ranked_head, ranked-past, ranked_there}
 use Rattle.rank_walk.proofs.index_mut.by_rank.Goals as goal
 
-pub returns-then-target : goal.returns-then-target
-returns-then-target c =
-    ranked_head c.requires _ c.if-target.true
+pub returns-then-eq : goal.returns-then-eq
+returns-then-eq c =
+    ranked_head c.requires _ (eqb-true _ _ (sym c.if-eq.ensures))
 
 pub returns-then-n-target : goal.returns-then-n-target
 returns-then-n-target c =
