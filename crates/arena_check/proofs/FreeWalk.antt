@@ -1,16 +1,15 @@
 -- The free chain, step by step: what each test of a free node says, and that the chain is right exactly when what is left of it is.
 -- Rests on specs/FreeChain.
-use Prim.Native.Nat.{ℕ, zero, suc, ◌+◌, ◌-◌, ◌≤◌, ◌<◌}
-use mathlib.Core.Path.{◌≡◌, sym, ◌∙◌}
+use Prim.Native.Nat.{ℕ, suc, ◌-◌, ◌<◌}
+use mathlib.Core.Path.{◌≡◌}
 use mathlib.Core.Bool.{Bool, true, false}
 use mathlib.Core.List.{List}
 use native.Mathlib.Omega.{arith}
 use Rattle.model.specs.Nodes.{N}
 use Rattle.arena.specs.Decides.{Decides}
-use Rattle.arena.proofs.Deciding.{yes, no, say_yes, say_no}
+use Rattle.arena.proofs.Deciding.{yes, no, say_no}
 use Rattle.link_check.specs.declared.Dims.{Dims}
-use Rattle.link_check.specs.Shape.{NodeSlot, key_in, height_in, next_in, last_in}
-use Rattle.link_check.specs.LevelLinks.{AbsentFrom}
+use Rattle.link_check.specs.Shape.{next_in}
 use Rattle.arena_check.specs.Headed.{free_count, first_free_slot}
 use Rattle.arena_check.specs.FreeChain.{FreeNode, FreeFrom}
 

@@ -1,7 +1,7 @@
 -- The tests of all heads: their lengths add up, and their last slots differ. Rests on specs/Headed and link_check's Loops.
 use Prim.Native.Nat.{ℕ, zero, suc, ◌+◌, ◌*◌, ◌≤◌, ◌<◌}
-use mathlib.Core.Path.{◌≡◌, sym, ap, ◌∙◌}
-use mathlib.Core.Bool.{true, false, not}
+use mathlib.Core.Path.{◌≡◌, sym, ◌∙◌}
+use mathlib.Core.Bool.{true, not}
 use lib.Dec.{eqb}
 use mathlib.Core.List.{List}
 use native.Mathlib.Numerals.{add-one}

@@ -1,6 +1,6 @@
 -- Words are whole exactly when the arena passes, and so the check keeps its promise.
 -- Rests on list_check's ListFacts, on FreeClauses and Once, and on model's Clauses.
-use Prim.Native.Nat.{ℕ, zero, ◌+◌, ◌≤◌, ◌<◌}
+use Prim.Native.Nat.{ℕ, ◌+◌, ◌≤◌, ◌<◌}
 use mathlib.Core.Path.{◌≡◌, refl, sym, ap, ◌∙◌, subst}
 use mathlib.Core.Bool.{Bool, true, false}
 use mathlib.Core.List.{List, [], ◌∷◌, ◌++◌}

@@ -1,7 +1,7 @@
 -- The tests of the check put together. Rests on specs/Whole.
 use Prim.Native.Nat.{ℕ, ◌+◌}
 use mathlib.Core.Path.{◌≡◌, sym, ◌∙◌, subst}
-use mathlib.Core.Bool.{Bool, true, false}
+use mathlib.Core.Bool.{Bool, true}
 use mathlib.Core.List.{List}
 use Rattle.arena.specs.Decides.{Decides}
 use Rattle.arena.proofs.Deciding.{yes}

@@ -22,11 +22,14 @@ pub fn free_ok(records: Records) -> bool
     ensures { Decides result (FreeFrom records.entry.words.now records.entry.dims (free_count records.entry.words.now) (first_free_slot records.entry.words.now)) }
 {
     let mut at = Slot(records.words[arena::FIRST_FREE_WORD]);
-    for _ in 0..records.words[arena::FREE_WORD] {
+    // Counted down, since a `for` takes an instruction more for each free slot.
+    let mut left = records.words[arena::FREE_WORD];
+    while 0 < left {
         if !free_node(records, at) {
             return false;
         }
         at = Slot(records.cell(at, arena::NEXT));
+        left -= 1;
     }
     at == Slot::NONE
 }

@@ -1,4 +1,4 @@
--- Ranges of tests: what the answer of `all` says of each number. Rests on specs/EachFrom and arena's Deciding.
+-- Tests of each number of a range: what the answer of `all` says, and that of a loop. Rests on specs/EachFrom and arena's Deciding.
 use Prim.Native.Nat.{ℕ, ◌+◌, ◌-◌, ◌≤◌, ◌<◌}
 use mathlib.Core.Path.{◌≡◌, refl, subst}
 use mathlib.Core.Bool.{Bool, true, false}
@@ -46,3 +46,17 @@ module _ (lo hi : ℕ) (P : ℕ → Type 0) where
   all_decided {u = u} {f = f} {r = r} a h = each-decided r (
       cases_from_all u f r P (λ x. P x → ⊥) a (YieldsList-from_range lo hi (hi - lo) refl refl)
       (λ x q k. let t = h x true q k in (t.0, yes t.1 refl)) (λ x q k. no (h x false q k).1 refl))
+
+-- P of each number from lo on, below k, where a loop stands
+pub record Upto (lo k : ℕ) (P : ℕ → Type 0) : Type 0 where
+  pub each : (j : ℕ) → lo ≤ j → j < k → P j
+
+-- a no ends it, and the end of the range
+module _ {lo k : ℕ} {P : ℕ → Type 0} (u : Upto lo k P) where
+  pub upto_no : {hi : ℕ} {b : Bool} → lo ≤ k → k < hi → Decides b (P k) → b ≡ false → Decides false (EachFrom lo hi P)
+  unfolding EachFrom
+  upto_no l m h e = say_no (λ f. no h e (f k l m))
+
+  pub upto_end : {hi : ℕ} → hi ≤ k → Decides true (EachFrom lo hi P)
+  unfolding EachFrom
+  upto_end l = say_yes (λ j p q. u.each j p (omega arith))

@@ -9,7 +9,7 @@ use native.Mathlib.Nat.{add-zero}
 use native.Mathlib.Omega.{arith}
 use borrow.Author.Tests.{le-leb, lt-leb}
 use Rattle.model.specs.Cells.{link_at}
-use Rattle.model.specs.Links.{target, distance, further, link_of}
+use Rattle.model.specs.Links.{distance, further, link_of}
 use Rattle.model.specs.Nodes.{Node}
 use Rattle.model.proofs.Links.{past}
 use Rattle.model.proofs.Owners.{link_from}

@@ -6,7 +6,7 @@ ghost use Rattle.link_check.specs.LevelLinks.{Reaches, PendingReach, PendingAbse
 use super::Records;
 use arena::{Rank, Slot};
 
-// The owners' slots and ranks, by level.
+// The owners' slots and ranks, by level, as numbers: the lists os and qs of specs/LevelLinks.
 #[derive(Drop)]
 pub struct Pending<'a> {
     pub records: Records<'a>,
@@ -44,17 +44,28 @@ impl<'a> Pending<'a> {
         requires { h ≤ self.now.records.dims.levels }
         ensures { Decides result (PendingReach self.now.records.words.now self.now.records.dims self.now.slots self.now.ranks h s.0 r.0) }
     {
-        (0..h).all(|l| self.reaches(l, s, r))
+        for l in 0..h {
+            if !self.reaches(l, s, r) {
+                return false;
+            }
+        }
+        true
     }
 
     // Whether every pending link is absent.
     pub fn absent(&self) -> bool
         ensures { Decides result (PendingAbsent self.now.records.words.now self.now.records.dims self.now.slots) }
     {
-        (0..self.records.dims.levels).all(|l| self.records.link_absent(Slot(self.slots[l]), l))
+        for l in 0..self.records.dims.levels {
+            if !self.records.link_absent(Slot(self.slots[l]), l) {
+                return false;
+            }
+        }
+        true
     }
 
-    // The node in slot s, which has rank r, becomes the owner of each level below h.
+    // The node in slot s, which has rank r, becomes the owner of each level below h. A loop, since a field beside a borrow and an invariant
+    // cannot be lent to `fill`.
     pub fn fill(&mut self, h: usize, s: Slot, r: Rank)
         requires height { h ≤ self.old.records.dims.levels }
         requires slot { s.0 < self.old.records.dims.lists + self.old.records.dims.room }

@@ -62,11 +62,16 @@ impl Records<'_> {
         self.dims.lists <= s.0 && s.0 < self.dims.lists + self.dims.room
     }
 
-    // Whether the links of slot s from level h on are absent.
+    // Whether the links of slot s from level h on are absent. The tests of links are `for` loops, since `all` takes more instructions.
     pub fn absent_from(self, s: Slot, h: usize) -> bool
         requires s_bound { s.0 < self.dims.lists + self.dims.room }
         ensures { Decides result (AbsentFrom self.entry.words.now self.entry.dims s.0 h) }
     {
-        (h..self.dims.levels).all(|l| self.link_absent(s, l))
+        for l in h..self.dims.levels {
+            if !self.link_absent(s, l) {
+                return false;
+            }
+        }
+        true
     }
 }

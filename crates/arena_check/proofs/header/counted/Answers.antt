@@ -1,6 +1,5 @@
 -- `arena_check::header::counted` meets its contract. The loop's invariant: the sum of the free count and of the lengths of the heads passed.
 use mathlib.Core.Path.{refl}
-use native.Mathlib.Omega.{arith}
 use Rattle.std.proofs.Common.{rules}
 use Rattle.arena_check.proofs.HeadTests.{count_none, count_more}
 use Rattle.arena_check.proofs.header.counted.Goals as goal

@@ -1,7 +1,6 @@
 -- `link_check::pending::Pending::fill` meets its contract. The loop's invariant: the node is the owner of the levels passed.
 use native.Mathlib.Omega.{arith}
-use mathlib.Core.Path.{◌≡◌, refl, ap}
-use Prim.Native.Nat.{ℕ}
+use mathlib.Core.Path.{◌≡◌, refl}
 use Rattle.link_check.proofs.OwnersFilled.{fill_none, fill_more, owner_set}
 use Rattle.link_check.proofs.pending.Pending.fill.Goals as goal
 
