@@ -46,7 +46,7 @@ Ranges-once L M C x y = λ i. record {
   room_most = le_prop x.room_most y.room_most i;
 }
 
-Passes-once : (w : List ℕ) → IsProp (Passes w)
+pub Passes-once : (w : List ℕ) → IsProp (Passes w)
 Passes-once w x y =
     let words_once : IsProp (w ≡ encode (decode w)) = hlevel props in
     λ i. record {

@@ -1,6 +1,6 @@
 // What a picture shows of a list: runs of indexes, and level by level the link that is held. All of it is read off words that pass, by the
 // library's own walk.
-ghost use Rattle.std.specs.Prelude.{◌≡◌, suc, ◌+◌, ◌≤◌, ◌<◌, length, drop, min, IfSome};
+ghost use Rattle.std.specs.Prelude.{◌≡◌, suc, ◌+◌, ◌-◌, ◌≤◌, ◌<◌, length, drop, min, IfSome};
 ghost use Rattle.std.specs.Iterator.{at_most};
 ghost use Rattle.model.specs.Nodes.{slot_at, key_at, height_at};
 ghost use Rattle.model.specs.Links.{distance};
@@ -8,12 +8,9 @@ ghost use Rattle.model.specs.Passes.{Passes, decode, nodes};
 ghost use Rattle.arena.specs.Decides.{Decides};
 ghost use Rattle.arena.specs.Owners.{Listed, Leads};
 ghost use Rattle.draw.specs.Holds.{Holds};
-ghost use Rattle.draw.specs.Once.{Listed-once};
+ghost use Rattle.draw.specs.Once.{Passes-once, Listed-once};
 
 use arena::{Index, Path, Slot};
-
-// The lists of an arena, at most.
-pub const LISTS: u32 = 16;
 
 // A list is cut into so many blocks at most; what comes behind is counted and not drawn.
 pub const BLOCKS: u32 = 16;
@@ -26,6 +23,15 @@ pub struct View<'a> {
     pub head: Slot,
     pub ghost listed: { Listed words.now levels head.0 } by { Listed-once words.now levels head.0 },
     pub ghost few: { length (nodes words.now head.0) ≤ 65535 },
+}
+
+// The lists of words that pass that are still to come, from list `next` on.
+#[derive(Drop)]
+pub struct Lists<'a> {
+    pub words: &'a [u32],
+    pub next: u32,
+    pub ghost passes: { Passes words.now } by { Passes-once words.now },
+    pub ghost few: { next ≤ 16 },
 }
 
 // The link that is held just before an index: it leaves the rank `from`, before the index, and leads `far` ranks on; 0 if there is none.
@@ -74,8 +80,9 @@ impl Held {
 
 impl<'a> View<'a> {
     // The list of a number, if it is there.
-    pub fn of(words: &'a [u32], head: Slot) -> Option<View<'a>>
+    fn of(words: &'a [u32], head: Slot) -> Option<View<'a>>
         requires { Passes words.now }
+        ensures { IfSome result (λ list. (list.head.0 ≡ head.0) × (head.0 < 16)) }
     {
         let Ok(levels) = answers::one_list(words, head) else {
             return None;
@@ -184,6 +191,27 @@ impl<'a> View<'a> {
         requires { room ≤ 62 }
     {
         self.len().saturating_sub(BLOCKS * room)
+    }
+}
+
+impl<'a> Lists<'a> {
+    pub fn of(words: &'a [u32]) -> Lists<'a>
+        requires { Passes words.now }
+        ensures { result.next ≡ 0 }
+    {
+        Lists { words, next: 0 }
+    }
+}
+
+impl<'a> Iterator for Lists<'a> {
+    type Item = View<'a>;
+
+    ghost remaining = { λ s. at_most (16 - s.next) };
+
+    fn next(&mut self) -> Option<View<'a>> {
+        let list = View::of(self.words, Slot(self.next))?;
+        self.next += 1;
+        Some(list)
     }
 }
 

@@ -5,10 +5,10 @@ ghost use Rattle.model.specs.Passes.{Passes, nodes};
 ghost use Rattle.arena.specs.Owners.{Leads};
 ghost use Rattle.draw.specs.Holds.{Holds};
 
-use super::blocks::{Block, Held, LISTS, View};
+use super::blocks::{Block, Held, Lists, View};
 use super::cells::{Row, Widths, digits};
 use super::marks::{Free, Heading, LeftOut};
-use arena::{Path, Slot};
+use arena::Path;
 
 // What is left of 80 columns for the nodes; a row's name, the head and its end take the others.
 const ROOM: u32 = 62;
@@ -150,10 +150,8 @@ fn list(out: &impl Print, list: View<'_>) {
 pub fn arena(out: &impl Print, w: &[u32])
     requires { Passes w.now }
 {
-    for a in 0..LISTS {
-        if let Some(one) = View::of(w, Slot(a)) {
-            list(out, one);
-        }
+    for one in Lists::of(w) {
+        list(out, one);
     }
     let _ = println!(out; "{}", Free::of(w));
 }

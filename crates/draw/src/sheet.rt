@@ -2,11 +2,10 @@
 ghost use Rattle.std.specs.Prelude.{◌≤◌};
 ghost use Rattle.model.specs.Passes.{Passes};
 
-use super::blocks::{BLOCKS, LISTS, View};
+use super::blocks::{BLOCKS, Lists, View};
 use super::boxes::ROOM;
 use super::marks::{Free, Heading, LeftOut};
 use super::{boxes, svg};
-use arena::Slot;
 
 // The height of a line of words.
 const WORDS: u32 = 32;
@@ -50,12 +49,10 @@ fn whole_size(w: &[u32]) -> Size
 {
     let mut columns = 0;
     let mut height = 0;
-    for a in 0..LISTS {
-        if let Some(list) = View::of(w, Slot(a)) {
-            let one = list_size(list);
-            columns = one.columns.max(columns);
-            height += one.height;
-        }
+    for list in Lists::of(w) {
+        let one = list_size(list);
+        columns = one.columns.max(columns);
+        height += one.height;
     }
     Size { columns, height }
 }
@@ -87,11 +84,9 @@ pub fn arena(out: &impl Print, w: &[u32])
     let whole = whole_size(w);
     svg::open(out, whole.columns, whole.height + WORDS);
     let mut y = 0;
-    for a in 0..LISTS {
-        if let Some(one) = View::of(w, Slot(a)) {
-            list(out, one, y);
-            y += list_size(one).height;
-        }
+    for one in Lists::of(w) {
+        list(out, one, y);
+        y += list_size(one).height;
     }
     svg::words(out, y, Free::of(w));
     svg::close(out);
