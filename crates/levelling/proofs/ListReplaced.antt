@@ -2,7 +2,7 @@
 use Prim.Native.Nat.{ℕ, suc, ◌≤◌, ◌<◌}
 use mathlib.Core.Path.{◌≡◌, sym, ap, ◌∙◌, subst}
 use mathlib.Core.List.{List, []}
-use lib.ListN.{length, take, get_or, length-set}
+use lib.ListN.{length, take, length-set}
 use lib.Seq.{get_or-set_same, length-take-le}
 use native.Mathlib.Omega.{arith}
 use Rattle.model.specs.Nodes.{Node, slot_at}

@@ -18,18 +18,14 @@ pub fn height_of(m: usize, k: Rank) -> u32
     requires { m ≤ 16 }
     ensures { result ≡ twos m k.0 }
 {
-    let mut left = m;
     let mut rest = k.0;
-    let mut h: u32 = 0;
-    while 0 < left {
+    for h in 0..m {
         if rest % 2 == 1 {
-            return h;
+            return h as u32;
         }
-        rest = rest / 2;
-        left -= 1;
-        h += 1;
+        rest /= 2;
     }
-    h
+    m as u32
 }
 
 // The path behind a node of height h, which stands at its end: the node is the precursor of the levels below h.
@@ -39,12 +35,8 @@ fn step_over(path: Path, slot: Slot, rank: Rank, h: usize) -> Path
 {
     let mut slots = path.slots;
     let mut ranks = path.ranks;
-    let mut l = 0;
-    while l < h {
-        slots[l] = slot;
-        ranks[l] = rank;
-        l += 1;
-    }
+    slots[..h].fill(slot);
+    ranks[..h].fill(rank);
     Path {
         slots,
         ranks,
@@ -73,11 +65,9 @@ pub fn level(w: &mut [u32], m: usize, list: Slot)
         ranks: [Rank::HEAD; 16],
         end: list,
     };
-    let mut i: u32 = 0;
-    while i < n {
+    for i in 0..n {
         let index = Index(i);
         let h = height_of(m, Rank::from_index(index));
         path = relevel(w, m, list, index, h, path);
-        i += 1;
     }
 }

@@ -1,6 +1,6 @@
 -- `levelling::level` meets its contract: after i turns the first i nodes are levelled, and the path leads to index i.
-use Prim.Native.Nat.{◌-◌}
 use mathlib.Core.Path.{refl}
+use native.Mathlib.Omega.{arith}
 use Rattle.levelling.proofs.EveryNode.{cell_count, all-levelled, can_relevel, level_start, level_turn}
 use Rattle.levelling.proofs.level.Goals as goal
 
@@ -14,13 +14,13 @@ loop-i-init c =
 
 pub relevel-path-requires : goal.relevel-path-requires
 relevel-path-requires c =
-    can_relevel c.loop-i.invariant c.loop-i-test.true _ c.height_of-h.ensures
+    can_relevel c.loop-i.invariant (omega arith) _ c.height_of-h.ensures
 
 pub loop-i-preserved : goal.loop-i-preserved
 loop-i-preserved c =
-    level_turn c.loop-i.invariant c.loop-i-test.true c.from_index.ensures c.height_of-h.ensures
+    level_turn c.loop-i.invariant (omega arith) c.from_index.ensures c.height_of-h.ensures
     c.relevel-path.ensures c.relevel-path.auto.w
 
 pub returns : goal.returns
 returns c =
-    all-levelled c.loop-i.invariant c.loop-i-test.false
+    all-levelled c.loop-i.invariant (omega arith)
