@@ -68,11 +68,12 @@ pub fn insert_links(
     requires o_value { o.0 ≡ first_free (decode w.old).free }
     ensures { LinksDone w.old (inserted_at (decode w.old) list.0 i.0 key height) m w.new }
 {
+    let Path { slots, ranks, .. } = path;
     let place = Rank::before(i);
     let h = height as usize;
     for l in 0..m {
-        let back = place.0 - path.ranks[l].0;
-        insert_level(w, m, l, h, path.slots[l], o, back);
+        let back = place.0 - ranks[l].0;
+        insert_level(w, m, l, h, slots[l], o, back);
     }
 }
 
@@ -82,9 +83,10 @@ pub fn remove_links(w: &mut [u32], m: usize, list: Slot, i: Index, o: Slot, h: u
     requires node_is { NodeIs w.old list.0 i.0 o.0 h }
     ensures { LinksDone w.old (do_remove (decode w.old) list.0 i.0) m w.new }
 {
+    let Path { slots, ranks, .. } = path;
     let place = Rank::before(i);
     for l in 0..m {
-        let back = place.0 - path.ranks[l].0;
-        remove_level(w, m, l, h, path.slots[l], o, back);
+        let back = place.0 - ranks[l].0;
+        remove_level(w, m, l, h, slots[l], o, back);
     }
 }

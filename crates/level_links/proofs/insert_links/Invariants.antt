@@ -10,5 +10,5 @@ use Rattle.level_links.proofs.insert_links.Given as goal
 
 abbrev pub invariant-loop-l : goal.invariant-loop-l
 invariant-loop-l l =
-    (a i : ℕ) → l.place.0 ≡ i → CanInsert l.initial.w l.m a i l.key l.height → Before l.initial.w l.m a i l.path.slots l.path.ranks
+    (a i : ℕ) → l.place.0 ≡ i → CanInsert l.initial.w l.m a i l.key l.height → Before l.initial.w l.m a i l.slots l.ranks
     → Relinked (decode l.initial.w) (inserted_at (decode l.initial.w) a i l.key l.height) (take 8 l.initial.w) l.m l.l l.w

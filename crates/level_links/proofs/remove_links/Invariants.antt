@@ -11,5 +11,5 @@ use Rattle.level_links.proofs.remove_links.Given as goal
 
 abbrev pub invariant-loop-l : goal.invariant-loop-l
 invariant-loop-l l =
-    (a i : ℕ) → l.place.0 ≡ i → NodeThere l.initial.w l.m a i → Before l.initial.w l.m a i l.path.slots l.path.ranks → NodeIs l.initial.w a i l.o.0 l.h
+    (a i : ℕ) → l.place.0 ≡ i → NodeThere l.initial.w l.m a i → Before l.initial.w l.m a i l.slots l.ranks → NodeIs l.initial.w a i l.o.0 l.h
     → Relinked (decode l.initial.w) (do_remove (decode l.initial.w) a i) (take 8 l.initial.w) l.m l.l l.w
