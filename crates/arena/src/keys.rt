@@ -26,6 +26,7 @@ pub fn key_at(w: &[u32], m: usize, s: Slot) -> Key
     cell(w, m, s, KEY)
 }
 
+// Not `<` and `==` at the callers: the order of keys stands here alone (docs/STRUCTURE.md, `arena`).
 pub fn below(a: Key, b: Key) -> bool
     ensures { Decides result (a < b) }
 {

@@ -38,7 +38,7 @@ pub struct Path {
 }
 
 impl Slot {
-    // No slot: document 01's N.
+    // No slot: document 01's N. It is no `Option`, since the words of an arena hold it (the model's `absent_link`).
     pub const NONE: Slot = Slot(4294967295);
 }
 
@@ -47,6 +47,7 @@ impl Rank {
 
     pub const FIRST: Rank = Rank(1);
 
+    // These are no `From`: an index has two ranks, its node's and the one before it, and a name says which.
     pub fn from_index(i: Index) -> Rank
         requires { i.0 < 4294967295 }
         ensures { result.0 ≡ i.0 + 1 }
@@ -81,10 +82,4 @@ impl Rank {
     {
         Rank(self.0 + d)
     }
-}
-
-pub fn wide(x: u32) -> usize
-    ensures { result ≡ x }
-{
-    x as usize
 }

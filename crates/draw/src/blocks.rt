@@ -127,7 +127,7 @@ impl<'a> View<'a> {
     {
         let s = self.slot_at(i);
         let h = arena::cell(self.words, self.levels, s, arena::HEIGHT);
-        arena::wide(h).min(self.levels)
+        (h as usize).min(self.levels)
     }
 
     // How far the link of level l leads from the node at an index.

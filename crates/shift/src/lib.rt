@@ -57,7 +57,7 @@ pub fn answer(w: &[u32], skipped: u64, out: &mut [u8]) -> usize
     if out.len() < ROOM || !arena_check::check(w) {
         return 0;
     }
-    let m = arena::wide(arena::header(w, arena::LEVELS_WORD));
+    let m = arena::header(w, arena::LEVELS_WORD) as usize;
     let at = lines(w, m, arena::header(w, arena::LISTS_WORD), out);
     figures_text::last(out, at, skipped)
 }
