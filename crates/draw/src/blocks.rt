@@ -82,7 +82,7 @@ impl<'a> View<'a> {
     // The list of a number, if it is there.
     fn of(words: &'a [u32], head: Slot) -> Option<View<'a>>
         requires { Passes words.now }
-        ensures { IfSome result (λ list. (list.head.0 ≡ head.0) × (head.0 < 16)) }
+        ensures { IfSome result (λ list. (list.words.now ≡ words.now) × (list.head.0 ≡ head.0) × (head.0 < 16)) }
     {
         let Ok(levels) = answers::one_list(words, head) else {
             return None;
