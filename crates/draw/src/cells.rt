@@ -13,7 +13,7 @@ pub struct Widths {
     pub ghost narrow_label: { label ≤ 10 },
 }
 
-// A row that is being made. It has 81 bytes at most, so that no piece is refused; in fixed memory, since the project uses no heap.
+// A row that is being made: 76 bytes at most, so that no piece is refused. In fixed memory, since the project uses no heap.
 #[derive(Clone, Copy)]
 pub struct Row {
     text: ArrayString<96>,

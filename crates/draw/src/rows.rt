@@ -13,8 +13,10 @@ use arena::Path;
 // What is left of 80 columns for the nodes; a row's name, the head and its end take the others.
 const ROOM: u32 = 62;
 
-// A node takes four columns at least.
-type Part<'a> = Block<'a, 15>;
+// The nodes of a block, at most: each takes four columns at least.
+const NODES: u32 = ROOM / 4;
+
+type Part<'a> = Block<'a, { NODES }>;
 
 // The rows below the levels.
 #[derive(Clone, Copy)]
