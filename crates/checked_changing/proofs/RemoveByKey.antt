@@ -1,17 +1,17 @@
 -- A removal by key: what the search without an allowance tells, and what the removal answers and leaves. Rests on model's ByKey and Allowed.
 use Prim.Native.Nat.{ℕ, ◌≤◌}
-use Rattle.std.specs.Prelude.{Result, Ok, Err}
-use mathlib.Core.Path.{◌≡◌, refl, sym, ap, ◌∙◌}
+use Rattle.std.specs.Prelude.{Ok, Err}
+use mathlib.Core.Path.{◌≡◌, refl, ap, ◌∙◌}
 use mathlib.Core.Logic.{◌≢◌}
 use mathlib.Core.Bool.{Bool, true, false, cond}
-use mathlib.Core.List.{List, [], ◌∷◌}
+use mathlib.Core.List.{List}
 use lib.ListN.{length}
 use native.Mathlib.Omega.{arith}
 use borrow.Author.Tests.{lt-ltb}
 use Rattle.model.specs.Nodes.{Node, key_at, smaller, Sorted}
 use Rattle.model.specs.Walks.{End, ended, is_found, key_walk}
 use Rattle.model.specs.Arena.{State, encode}
-use Rattle.model.specs.Calls.{Answer, accepted, answer_to, search, remove_key, do_remove, searched, keyed, refused}
+use Rattle.model.specs.Calls.{Answer, accepted, answer_to, search, remove_key, do_remove, searched, keyed}
 use Rattle.model.specs.Passes.{decode, nodes}
 use Rattle.model.proofs.Allowed.{not_refused}
 use Rattle.model.proofs.ByKey.{key_place, key_found}
@@ -23,8 +23,7 @@ use Rattle.model.proofs.Walk.{smaller_le, tally_le}
 use Rattle.arena.specs.Owners.{Listed, NodeThere}
 use Rattle.arena.specs.declared.Index.{Index}
 use Rattle.key_walk.specs.SearchAnswer.{answer_of}
-use Rattle.key_walk.specs.declared.Searched.{Searched}
-use Rattle.key_walk.specs.declared.Searched.TheVariants.{Found, Missing}
+use Rattle.key_walk.specs.declared.Searched.TheVariants.{Found}
 use Rattle.key_walk.specs.declared.Beyond.{Beyond}
 use Rattle.answers.specs.Kept.{Kept}
 
