@@ -49,7 +49,7 @@ fn level(out: &impl Print, b: Part<'_>, l: usize, held: Held)
     }
 }
 
-// The loop of `rows::levels`: a closure for what a level draws would have to ask `Holds` of its argument, in more words than the loop has.
+// The loops of `rows`: a closure for what is drawn there would have to ask `Holds` of its argument, in more words than a loop has.
 fn levels(out: &impl Print, b: Part<'_>, path: Path)
     requires { Leads b.list.words.now b.list.levels b.list.head.0 b.first path }
 {

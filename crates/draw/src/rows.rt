@@ -18,7 +18,7 @@ const NODES: u32 = ROOM / 4;
 
 type Part<'a> = Block<'a, { NODES }>;
 
-// The rows below the levels.
+// The rows below the levels. No closures: a row's lead, its cells and its end differ, and three of them for each row would say no more.
 #[derive(Clone, Copy)]
 pub enum Foot {
     Next,
