@@ -5,6 +5,7 @@ use std::{fmt, io};
 // The clauses of 'An arena passes the check', in its order.
 #[derive(Clone, Copy)]
 pub enum Clause {
+    // No clause is broken. It is no `Option`, which could not print its own words.
     None,
     Length,
     Header,
