@@ -27,12 +27,10 @@ pub fn two_lists(w: &[u32], a: Slot, b: Slot) -> Result<usize, Refusal>
     requires { Passes w.now }
     ensures { NamesTwo w.now a.0 b.0 result }
 {
-    let lists = arena::header(w, arena::LISTS_WORD);
-    if lists <= a.0 || lists <= b.0 {
-        return Err(Refusal::NoList);
-    }
+    let m = one_list(w, a)?;
+    one_list(w, b)?;
     if a == b {
         return Err(Refusal::SameList);
     }
-    Ok(arena::header(w, arena::LEVELS_WORD) as usize)
+    Ok(m)
 }
