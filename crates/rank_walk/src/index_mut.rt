@@ -44,7 +44,7 @@ pub fn seek(w: &[u32], m: usize, list: Slot, i: Index) -> Path
     };
     let mut base = arena::base_of(m, list);
     let mut stage = m;
-    // No `for`: a turn goes along a stage or down to the next, so that no count of turns stands before.
+    // No `for` over the levels with a function that goes along each: on 255 keys that takes a tenth more instructions.
     while 0 < stage {
         let far = arena::distance_in(w, base, stage);
         if !can_follow(far, limit.0 - v.rank.0) {
