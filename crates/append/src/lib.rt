@@ -22,6 +22,7 @@ fn first_key(w: &[u32], m: usize, list: Slot) -> Key
     key_at(w, m, first)
 }
 
+// Not one function with `first_key`, told apart by the column: each promises another key, by a clause of its own.
 fn last_key(w: &[u32], m: usize, list: Slot) -> Key
     requires { Listed w.now m list.0 × (0 < length (nodes w.now list.0)) }
     ensures { result ≡ last_key (nodes w.now list.0) }
