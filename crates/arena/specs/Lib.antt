@@ -4,3 +4,5 @@ pub mod Linked
 pub mod Between
 pub mod Owners
 pub mod Decides
+pub mod ListedOnce
+pub mod Held

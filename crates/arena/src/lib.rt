@@ -6,6 +6,7 @@ ghost use Rattle.std.specs.Prelude.{◌≡◌, ◌+◌, ◌<◌};
 mod keys;
 mod layout;
 mod links;
+mod lists;
 mod words;
 
 pub use keys::{Key, below, key_at, key_in, same};
@@ -15,6 +16,7 @@ pub use layout::{
     fits, size, width,
 };
 pub use links::{Link, distance_in, link_at, put_link, target_in};
+pub use lists::List;
 pub use words::{cell, header, last_slot, put, put_header, put2, word};
 
 // The number of a record; lists are named by their heads' slots, 0 to L - 1.

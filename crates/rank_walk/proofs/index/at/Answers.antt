@@ -6,4 +6,4 @@ use Rattle.rank_walk.proofs.index.at.Goals as goal
 
 pub from_index-requires : goal.from_index-requires
 from_index-requires c =
-    omega (arith, length_most (at-rank 0 c.requires.0 (omega arith) refl), c.requires.1)
+    omega (arith, length_most (at-rank 0 c.args.list.listed (omega arith) refl), c.requires)

@@ -7,8 +7,8 @@ use Rattle.rank_walk.proofs.index.length.Goals as goal
 
 pub cell-requires : goal.cell-requires
 cell-requires c =
-    cell_here (at-rank 0 c.requires (omega arith) refl) count_column (omega arith)
+    cell_here (at-rank 0 c.args.list.listed (omega arith) refl) count_column (omega arith)
 
 pub returns : goal.returns
 returns c =
-    c.cell.ensures ∙ length_here c.requires
+    c.cell.ensures ∙ length_here c.args.list.listed

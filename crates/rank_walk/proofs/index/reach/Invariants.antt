@@ -8,7 +8,7 @@ use Rattle.rank_walk.proofs.index.reach.Given as goal
 
 abbrev pub invariant-loop-stage : goal.invariant-loop-stage
 invariant-loop-stage l =
-    Standing l.w l.m l.list.0 l.target.0 l.stage l.v.slot.0 l.v.rank.0 × (l.base ≡ base_of l.m l.v.slot.0)
+    Standing l.list.words.now l.list.levels l.list.head.0 l.target.0 l.stage l.v.slot.0 l.v.rank.0 × (l.base ≡ base_of l.list.levels l.v.slot.0)
 
 abbrev pub decreases-loop-stage : goal.decreases-loop-stage
 decreases-loop-stage l = l.stage + (l.target.0 - l.v.rank.0)

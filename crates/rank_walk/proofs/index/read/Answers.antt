@@ -7,8 +7,8 @@ use Rattle.rank_walk.proofs.index.read.Goals as goal
 
 pub key_at-requires : goal.key_at-requires
 key_at-requires c =
-    cell_here (at-rank _ c.requires.0 c.requires.1 c.at-s.ensures) key_column (omega arith)
+    cell_here (at-rank _ c.args.list.listed c.requires c.at.ensures) key_column (omega arith)
 
 pub returns : goal.returns
 returns c =
-    c.key_at.ensures ∙ key_here (at-rank _ c.requires.0 c.requires.1 c.at-s.ensures) _ refl
+    c.key_at.ensures ∙ key_here (at-rank _ c.args.list.listed c.requires c.at.ensures) _ refl

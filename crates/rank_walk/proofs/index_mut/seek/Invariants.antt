@@ -9,8 +9,8 @@ use Rattle.rank_walk.proofs.index_mut.seek.Given as goal
 
 abbrev pub invariant-loop-stage : goal.invariant-loop-stage
 invariant-loop-stage l =
-    Standing l.w l.m l.list.0 l.limit.0 l.stage l.v.slot.0 l.v.rank.0 × (l.base ≡ base_of l.m l.v.slot.0)
-    × Noted l.w l.m l.list.0 l.limit.0 l.stage l.slots l.ranks
+    Standing l.list.words.now l.list.levels l.list.head.0 l.limit.0 l.stage l.v.slot.0 l.v.rank.0 × (l.base ≡ base_of l.list.levels l.v.slot.0)
+    × Noted l.list.words.now l.list.levels l.list.head.0 l.limit.0 l.stage l.slots l.ranks
 
 abbrev pub decreases-loop-stage : goal.decreases-loop-stage
 decreases-loop-stage l = l.stage + (l.limit.0 - l.v.rank.0)

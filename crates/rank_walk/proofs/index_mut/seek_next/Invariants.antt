@@ -4,4 +4,4 @@ use Rattle.walk.specs.Standing.{Standing}
 use Rattle.rank_walk.proofs.index_mut.seek_next.Given as goal
 
 abbrev pub invariant-loop-rank : goal.invariant-loop-rank
-invariant-loop-rank l = Standing l.w l.m l.fn.list.0 l.fn.limit.0 0 l.slot.0 l._rank
+invariant-loop-rank l = Standing l.list.words.now l.list.levels l.list.head.0 l.fn.limit.0 0 l.slot.0 l._rank

@@ -1,0 +1,13 @@
+// A list of an arena that passes the check, to be read: the words, their number of levels, and the list's head.
+ghost use Rattle.arena.specs.Owners.{Listed};
+ghost use Rattle.arena.specs.ListedOnce.{listed_prop};
+
+use crate::Slot;
+
+#[derive(Clone, Copy)]
+pub struct List<'a> {
+    pub words: &'a [u32],
+    pub levels: usize,
+    pub head: Slot,
+    pub ghost listed: { Listed words.now levels head.0 } by { listed_prop words.now levels head.0 },
+}
