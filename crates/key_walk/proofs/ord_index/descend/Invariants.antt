@@ -6,7 +6,7 @@ use Rattle.key_walk.specs.Midway.{Stands, Carries}
 use Rattle.key_walk.proofs.ord_index.descend.Given as goal
 
 abbrev pub invariant-loop-stage : goal.invariant-loop-stage
-invariant-loop-stage l = (a : ℕ) → Stands l.w l.m a l.initial.stage l.initial.v → Carries l.w l.m a l.key l.initial.stage l.initial.v l.stage l.v
+invariant-loop-stage l = (a : ℕ) → Stands l.list.words.now l.list.levels a l.initial.stage l.initial.v → Carries l.list.words.now l.list.levels a l.key l.initial.stage l.initial.v l.stage l.v
 
 abbrev pub decreases-loop-stage : goal.decreases-loop-stage
 decreases-loop-stage l = l.stage + l.v.left
