@@ -1,31 +1,30 @@
 // The walk by key, with the precursors and their ranks.
-ghost use Rattle.arena.specs.Owners.{Listed};
 ghost use Rattle.arena.specs.Decides.{Decides};
 ghost use Rattle.precursors.specs.Trails.{Readable, GoesBelow, Begun, Stopped, Joined, Trailed};
 
 use crate::{Outcome, Stop, Tracer, Trail};
-use arena::{Key, Path, Rank, Slot};
+use arena::{Key, List, Path, Rank, Slot};
 
 // Whether a link leads to a key that is smaller: it is not absent, and slot `to` has such a key.
-fn goes_below(w: &[u32], m: usize, to: Slot, key: Key) -> bool
-    requires { Readable w.now m to.0 }
-    ensures { Decides result (GoesBelow w.now m key to.0) }
+fn goes_below(list: List, to: Slot, key: Key) -> bool
+    requires { Readable list.words.now list.levels to.0 }
+    ensures { Decides result (GoesBelow list.entry.words.now list.entry.levels key to.0) }
 {
-    to != Slot::NONE && arena::below(arena::key_at(w, m, to), key)
+    to != Slot::NONE && arena::below(arena::key_at(list.words, list.levels, to), key)
 }
 
 // Below level 0, by next, and stopped before the first key that is not smaller.
-fn trace_next(w: &[u32], m: usize, list: Slot, key: Key, from: Tracer) -> Stop
-    requires { Begun w.now m list.0 0 key from }
-    ensures { Stopped w.now m list.0 key result }
+fn trace_next(list: List, key: Key, from: Tracer) -> Stop
+    requires { Begun list.words.now list.levels list.head.0 0 key from }
+    ensures { Stopped list.entry.words.now list.entry.levels list.entry.head.0 key result }
 {
     let mut v = from;
     loop {
-        let next = Slot(arena::cell(w, m, v.slot, arena::NEXT));
+        let next = Slot(arena::cell(list.words, list.levels, v.slot, arena::NEXT));
         if next == Slot::NONE {
             return v.stop(Outcome::Missing);
         }
-        let met = arena::key_at(w, m, next);
+        let met = arena::key_at(list.words, list.levels, next);
         if arena::below(key, met) {
             return v.stop(Outcome::Missing);
         }
@@ -56,23 +55,22 @@ fn trail(slots: [Slot; 16], ranks: [Rank; 16], s: Stop) -> Trail
 }
 
 // The walk from the head: the precursors, the place of the key, and whether it is there.
-pub fn find(w: &[u32], m: usize, list: Slot, key: Key) -> Trail
-    requires { Listed w.now m list.0 }
-    ensures { Trailed w.now m list.0 key result }
+pub fn find(list: List, key: Key) -> Trail
+    ensures { Trailed list.entry.words.now list.entry.levels list.entry.head.0 key result }
 {
-    let mut slots = [list; 16];
+    let mut slots = [list.head; 16];
     let mut ranks = [Rank::HEAD; 16];
     let mut v = Tracer {
-        slot: list,
+        slot: list.head,
         rank: Rank::HEAD,
         bound: Slot::NONE,
     };
-    let mut base = arena::base_of(m, list);
-    let mut stage = m;
+    let mut base = arena::base_of(list.levels, list.head);
+    let mut stage = list.levels;
     // No `for`: a turn goes along a stage or down to the next, so that no count of turns stands before.
     while 0 < stage {
-        let to = arena::target_in(w, base, stage);
-        if !goes_below(w, m, to, key) {
+        let to = arena::target_in(list.words, base, stage);
+        if !goes_below(list, to, key) {
             stage -= 1;
             slots[stage] = v.slot;
             ranks[stage] = v.rank;
@@ -82,9 +80,9 @@ pub fn find(w: &[u32], m: usize, list: Slot, key: Key) -> Trail
         if to == v.bound {
             return trail(slots, ranks, v.stop(Outcome::Violation));
         }
-        v.rank = v.rank.plus(arena::distance_in(w, base, stage));
+        v.rank = v.rank.plus(arena::distance_in(list.words, base, stage));
         v.slot = to;
-        base = arena::base_of(m, to);
+        base = arena::base_of(list.levels, to);
     }
-    trail(slots, ranks, trace_next(w, m, list, key, v))
+    trail(slots, ranks, trace_next(list, key, v))
 }

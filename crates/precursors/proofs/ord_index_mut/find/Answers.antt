@@ -12,7 +12,7 @@ use Rattle.precursors.proofs.ord_index_mut.find.Goals as goal
 
 pub loop-stage-init : goal.loop-stage-init
 loop-stage-init c =
-    (begun-at_head _ refl refl refl c.requires, c.base_of-base.ensures, noted-none (refl, refl))
+    (begun-at_head _ refl refl refl c.args.list.listed, c.base_of-base.ensures, noted-none (refl, refl))
 
 pub target_in-to-requires : goal.target_in-to-requires
 target_in-to-requires c =

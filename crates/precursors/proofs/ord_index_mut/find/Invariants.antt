@@ -12,8 +12,8 @@ use Rattle.precursors.proofs.ord_index_mut.find.Given as goal
 
 abbrev pub invariant-loop-stage : goal.invariant-loop-stage
 invariant-loop-stage l =
-    Begun l.w l.m l.list.0 l.stage l.key l.v × (l.base ≡ base_of l.m l.v.slot.0)
-    × Noted l.w l.m l.list.0 (smaller l.key (nodes l.w l.list.0)) l.stage l.slots l.ranks
+    Begun l.list.words.now l.list.levels l.list.head.0 l.stage l.key l.v × (l.base ≡ base_of l.list.levels l.v.slot.0)
+    × Noted l.list.words.now l.list.levels l.list.head.0 (smaller l.key (nodes l.list.words.now l.list.head.0)) l.stage l.slots l.ranks
 
 abbrev pub decreases-loop-stage : goal.decreases-loop-stage
 decreases-loop-stage l = l.stage + (65536 - l.v.rank.0)
