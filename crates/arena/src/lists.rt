@@ -1,4 +1,5 @@
 // A list of an arena that passes the check, to be read: the words, their number of levels, and the list's head.
+ghost use Rattle.std.specs.Prelude.{◌≡◌};
 ghost use Rattle.arena.specs.Owners.{Listed};
 ghost use Rattle.arena.specs.ListedOnce.{listed_prop};
 
@@ -10,4 +11,19 @@ pub struct List<'a> {
     pub levels: usize,
     pub head: Slot,
     pub ghost listed: { Listed words.now levels head.0 } by { listed_prop words.now levels head.0 },
+}
+
+impl<'a> List<'a> {
+    pub fn new(words: &'a [u32], levels: usize, head: Slot) -> List<'a>
+        requires { Listed words.now levels head.0 }
+        ensures words { result.words.now ≡ words.now }
+        ensures levels { result.levels ≡ levels }
+        ensures head { result.head ≡ head }
+    {
+        List {
+            words,
+            levels,
+            head,
+        }
+    }
 }

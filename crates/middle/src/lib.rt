@@ -3,10 +3,9 @@
 
 ghost use Rattle.std.specs.Prelude.{◌≡◌, ◌+◌, ◌*◌, ◌≤◌, ◌<◌, length};
 ghost use Rattle.model.specs.Lists.{middle_of};
-ghost use Rattle.model.specs.Passes.{nodes};
-ghost use Rattle.arena.specs.Owners.{Listed};
+ghost use Rattle.arena.specs.Held.{nodes_of};
 
-use arena::{Index, Key, Slot};
+use arena::{Index, Key, List, Slot};
 
 // The sum of two keys, which can pass 32 bits.
 fn sum(a: Key, b: Key) -> u64
@@ -16,17 +15,17 @@ fn sum(a: Key, b: Key) -> u64
 }
 
 // Twice the median: the key at index floor((length - 1) / 2), and the next or, where the length is odd, the same again.
-pub fn middle(w: &[u32], m: usize, list: Slot) -> u64
-    requires { Listed w.now m list.0 × (0 < length (nodes w.now list.0)) }
-    ensures { (result ≡ middle_of (nodes w.now list.0)) × (result ≤ 2 * 4294967295) }
+pub fn middle(list: List) -> u64
+    requires { 0 < length (nodes_of list) }
+    ensures { (result ≡ middle_of (nodes_of list.entry)) × (result ≤ 2 * 4294967295) }
 {
-    let n = rank_walk::length(w, m, list);
-    let s = rank_walk::at(w, m, list, Index((n - 1) / 2));
-    let lower = arena::key_at(w, m, s);
+    let n = rank_walk::length(list);
+    let s = rank_walk::at(list, Index((n - 1) / 2));
+    let lower = arena::key_at(list.words, list.levels, s);
     if n % 2 == 1 {
         return sum(lower, lower);
     }
-    let next = arena::cell(w, m, s, arena::NEXT);
-    let upper = arena::key_at(w, m, Slot(next));
+    let next = arena::cell(list.words, list.levels, s, arena::NEXT);
+    let upper = arena::key_at(list.words, list.levels, Slot(next));
     sum(lower, upper)
 }
