@@ -11,7 +11,7 @@ ghost use Rattle.arena.specs.Owners.{Listed, Leads, NodeThere};
 ghost use Rattle.truncate.specs.Truncation.{Unlinked};
 
 use arena::{
-    COUNT, FIRST_FREE_WORD, FREE_WORD, Index, LAST, Link, NEXT, Path, Slot, cell, header,
+    COUNT, FIRST_FREE_WORD, FREE_WORD, Index, LAST, Link, List, NEXT, Path, Slot, cell, header,
     last_slot, put, put_header, put_link,
 };
 use free_node::free_node;
@@ -63,9 +63,10 @@ pub fn truncate(w: &mut [u32], m: usize, list: Slot, n: u32)
     requires { Listed w.old m list.0 }
     ensures { w.new ≡ encode (do_truncate (decode w.old) list.0 n) }
 {
-    if rank_walk::length(w, m, list) <= n {
+    let kept = List::new(w, m, list);
+    if rank_walk::length(kept) <= n {
         return;
     }
-    let path = rank_walk::seek(w, m, list, Index(n));
+    let path = rank_walk::seek(kept, Index(n));
     trim(w, m, list, Index(n), path);
 }
