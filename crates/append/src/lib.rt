@@ -8,35 +8,35 @@ ghost use Rattle.model.specs.Lists.{last_key};
 ghost use Rattle.model.specs.Arena.{encode};
 ghost use Rattle.model.specs.Calls.{do_append};
 ghost use Rattle.model.specs.Passes.{decode, nodes};
-ghost use Rattle.arena.specs.Owners.{Listed, TwoLists, Leads};
+ghost use Rattle.arena.specs.Owners.{TwoLists, Leads};
+ghost use Rattle.arena.specs.Held.{nodes_of};
 ghost use Rattle.join.specs.Joins.{Joins};
 ghost use Rattle.join_before.specs.Preceded.{do_join_before};
 
-use arena::{Index, Key, LAST, NEXT, Path, Slot, below, cell, key_at};
+use arena::{Index, Key, LAST, List, NEXT, Path, Slot, below, cell, key_at};
 
-fn first_key(w: &[u32], m: usize, list: Slot) -> Key
-    requires { Listed w.now m list.0 × (0 < length (nodes w.now list.0)) }
-    ensures { result ≡ key_at (nodes w.now list.0) 0 }
+fn first_key(list: List) -> Key
+    requires { 0 < length (nodes_of list) }
+    ensures { result ≡ key_at (nodes_of list.entry) 0 }
 {
-    let first = Slot(cell(w, m, list, NEXT));
-    key_at(w, m, first)
+    let first = Slot(cell(list.words, list.levels, list.head, NEXT));
+    key_at(list.words, list.levels, first)
 }
 
 // Not one function with `first_key`, told apart by the column: each promises another key, by a clause of its own.
-fn last_key(w: &[u32], m: usize, list: Slot) -> Key
-    requires { Listed w.now m list.0 × (0 < length (nodes w.now list.0)) }
-    ensures { result ≡ last_key (nodes w.now list.0) }
+fn last_key(list: List) -> Key
+    requires { 0 < length (nodes_of list) }
+    ensures { result ≡ last_key (nodes_of list.entry) }
 {
-    let last = Slot(cell(w, m, list, LAST));
-    key_at(w, m, last)
+    let last = Slot(cell(list.words, list.levels, list.head, LAST));
+    key_at(list.words, list.levels, last)
 }
 
-fn end_path(w: &[u32], m: usize, list: Slot) -> Path
-    requires { Listed w.now m list.0 }
-    ensures { Leads w.now m list.0 (length (nodes w.now list.0)) result }
+fn end_path(list: List) -> Path
+    ensures { Leads list.entry.words.now list.entry.levels list.entry.head.0 (length (nodes_of list.entry)) result }
 {
-    let n = rank_walk::length(w, m, list);
-    rank_walk::seek(w, m, list, Index(n))
+    let n = rank_walk::length(list);
+    rank_walk::seek(list, Index(n))
 }
 
 // Where b follows a: b is hung behind a.
@@ -44,7 +44,7 @@ fn follow(w: &mut [u32], m: usize, a: Slot, b: Slot)
     requires { Joins w.old m a.0 b.0 }
     ensures { w.new ≡ encode (do_join (decode w.old) a.0 b.0) }
 {
-    let path = end_path(w, m, a);
+    let path = end_path(List::new(w, m, a));
     join::join(w, m, a, b, path);
 }
 
@@ -53,7 +53,7 @@ fn precede(w: &mut [u32], m: usize, a: Slot, b: Slot)
     requires { Joins w.old m b.0 a.0 }
     ensures { w.new ≡ encode (do_join_before (decode w.old) a.0 b.0) }
 {
-    let path = end_path(w, m, b);
+    let path = end_path(List::new(w, m, b));
     join_before::join_before(w, m, a, b, path);
 }
 
@@ -63,11 +63,12 @@ fn append_some(w: &mut [u32], m: usize, a: Slot, b: Slot)
     requires nonzero { (0 < length (nodes w.old a.0)) × (0 < length (nodes w.old b.0)) }
     ensures { w.new ≡ encode (do_append (decode w.old) a.0 b.0) }
 {
-    if !below(first_key(w, m, b), last_key(w, m, a)) {
+    let (onto, from) = (List::new(w, m, a), List::new(w, m, b));
+    if !below(first_key(from), last_key(onto)) {
         follow(w, m, a, b);
         return;
     }
-    if !below(first_key(w, m, a), last_key(w, m, b)) {
+    if !below(first_key(onto), last_key(from)) {
         precede(w, m, a, b);
         return;
     }
@@ -79,10 +80,10 @@ pub fn append(w: &mut [u32], m: usize, a: Slot, b: Slot)
     requires { TwoLists w.old m a.0 b.0 }
     ensures { w.new ≡ encode (do_append (decode w.old) a.0 b.0) }
 {
-    if rank_walk::length(w, m, b) == 0 {
+    if rank_walk::length(List::new(w, m, b)) == 0 {
         return;
     }
-    if rank_walk::length(w, m, a) == 0 {
+    if rank_walk::length(List::new(w, m, a)) == 0 {
         follow(w, m, a, b);
         return;
     }

@@ -14,11 +14,15 @@ pub struct List<'a> {
 }
 
 impl<'a> List<'a> {
+    ghost use Rattle.model.specs.Passes.{nodes};
+    ghost use Rattle.arena.specs.Held.{nodes_of};
+
     pub fn new(words: &'a [u32], levels: usize, head: Slot) -> List<'a>
         requires { Listed words.now levels head.0 }
         ensures words { result.words.now ≡ words.now }
         ensures levels { result.levels ≡ levels }
         ensures head { result.head ≡ head }
+        ensures nodes { nodes_of result ≡ nodes words.now head.0 }
     {
         List {
             words,

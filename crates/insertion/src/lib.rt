@@ -8,7 +8,9 @@ ghost use Rattle.model.specs.Passes.{decode};
 ghost use Rattle.arena.specs.Owners.{Listed, Leads};
 ghost use Rattle.level_links.specs.AtIndex.{inserted_at, CanInsert};
 
-use arena::{COUNT, FIRST_FREE_WORD, FREE_WORD, Index, Key, LAST, NEXT, Path, Slot, cell, header};
+use arena::{
+    COUNT, FIRST_FREE_WORD, FREE_WORD, Index, Key, LAST, List, NEXT, Path, Slot, cell, header,
+};
 use chain_words::{Head, Record, put_chain, put_free};
 use level_links::insert_links;
 
@@ -59,6 +61,6 @@ pub fn insert(w: &mut [u32], m: usize, list: Slot, key: Key, height: u32)
     requires { Listed w.old m list.0 × ((height ≤ m) × (0 < length (decode w.old).free)) }
     ensures { w.new ≡ encode (do_insert (decode w.old) list.0 key height) }
 {
-    let trail = precursors::find(w, m, list, key);
+    let trail = precursors::find(List::new(w, m, list), key);
     insert_before(w, m, list, key, height, trail.place, trail.path);
 }

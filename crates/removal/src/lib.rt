@@ -9,8 +9,8 @@ ghost use Rattle.model.specs.Passes.{decode, nodes};
 ghost use Rattle.arena.specs.Owners.{Leads, NodeThere};
 
 use arena::{
-    COUNT, FIRST_FREE_WORD, FREE_WORD, HEIGHT, Index, Key, LAST, NEXT, Path, Rank, Slot, cell,
-    header, key_at, last_slot,
+    COUNT, FIRST_FREE_WORD, FREE_WORD, HEIGHT, Index, Key, LAST, List, NEXT, Path, Rank, Slot,
+    cell, header, key_at, last_slot,
 };
 use chain_words::{Head, Record, put_chain, put_free};
 use level_links::remove_links;
@@ -62,6 +62,6 @@ pub fn remove_at(w: &mut [u32], m: usize, list: Slot, i: Index) -> Key
     requires { NodeThere w.old m list.0 i.0 }
     ensures { w.new ≡ encode (do_remove (decode w.old) list.0 i.0) × (result ≡ key_at (nodes w.old list.0) i.0) }
 {
-    let path = rank_walk::seek(w, m, list, i);
+    let path = rank_walk::seek(List::new(w, m, list), i);
     remove_after(w, m, list, i, path)
 }

@@ -14,7 +14,8 @@ ghost use Rattle.level_links.specs.OneLevel.{nearer_link, LinksDone};
 ghost use Rattle.split.specs.Splits.{Splits};
 
 use arena::{
-    COUNT, Index, Key, LAST, Link, NEXT, Path, Rank, Slot, cell, last_slot, link_at, put_link, put2,
+    COUNT, Index, Key, LAST, Link, List, NEXT, Path, Rank, Slot, cell, last_slot, link_at,
+    put_link, put2,
 };
 use level_links::at_distance;
 use link::nearer;
@@ -64,7 +65,7 @@ pub fn split_at(w: &mut [u32], m: usize, from: Slot, to: Slot, i: Index)
     requires { Splits w.old m from.0 to.0 i.0 }
     ensures { w.new ≡ encode (do_split (decode w.old) from.0 to.0 i.0) }
 {
-    let path = rank_walk::seek(w, m, from, i);
+    let path = rank_walk::seek(List::new(w, m, from), i);
     split(w, m, from, to, i, path);
 }
 
@@ -73,6 +74,6 @@ pub fn split_key(w: &mut [u32], m: usize, from: Slot, to: Slot, key: Key)
     requires { TwoLists w.old m from.0 to.0 × (nodes w.old to.0 ≡ []) }
     ensures { w.new ≡ encode (do_split (decode w.old) from.0 to.0 (smaller key (nodes w.old from.0))) }
 {
-    let trail = precursors::find(w, m, from, key);
+    let trail = precursors::find(List::new(w, m, from), key);
     split(w, m, from, to, trail.place, trail.path);
 }

@@ -4,10 +4,12 @@ use Rattle.append.proofs.append_some.Goals as goal
 
 pub follow-requires : goal.follow-requires
 follow-requires c =
-    can_join c.requires.two_lists c.requires.nonzero.0 c.requires.nonzero.1
-    (at_most c.below.ensures c.first_key.ensures c.last_key.ensures c.if-not-below.true)
+    let first = rw (c.new-from.ensures.nodes) at c.first_key.ensures in
+    let last = rw (c.new-onto.ensures.nodes) at c.last_key.ensures in
+    can_join c.requires.two_lists c.requires.nonzero.0 c.requires.nonzero.1 (at_most c.below.ensures first last c.if-not-below.true)
 
 pub precede-requires : goal.precede-requires
 precede-requires c =
-    can_precede c.requires.two_lists c.requires.nonzero.0 c.requires.nonzero.1
-    (at_most c.below-2.ensures c.first_key-2.ensures c.last_key-2.ensures c.if-not-below-2.true)
+    let first = rw (c.new-onto.ensures.nodes) at c.first_key-2.ensures in
+    let last = rw (c.new-from.ensures.nodes) at c.last_key-2.ensures in
+    can_precede c.requires.two_lists c.requires.nonzero.0 c.requires.nonzero.1 (at_most c.below-2.ensures first last c.if-not-below-2.true)

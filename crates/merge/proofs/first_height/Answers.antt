@@ -5,14 +5,16 @@ use Rattle.merge.proofs.first_height.Goals as goal
 
 pub cell-requires : goal.cell-requires
 cell-requires c =
-    head_cell c.requires.0 2 (omega arith)
+    head_cell c.args.list.listed 2 (omega arith)
 
 pub cell-requires-2 : goal.cell-requires-2
 cell-requires-2 c =
-    let (p, some) = c.requires in
+    let p = c.args.list.listed in
+    let some = c.requires in
     node-cell p some (first-is p some c.cell.ensures) 1 (omega arith)
 
 pub returns : goal.returns
 returns c =
-    let (p, some) = c.requires in
+    let p = c.args.list.listed in
+    let some = c.requires in
     node_word p some (first-is p some c.cell.ensures) 1 (omega arith) c.cell-2.ensures

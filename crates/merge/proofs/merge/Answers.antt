@@ -5,7 +5,8 @@ use Rattle.merge.proofs.merge.Goals as goal
 
 pub loop-preserved : goal.loop-preserved
 loop-preserved c =
-    let (g, left) = c.loop.invariant in (
-      merge_turn g (omega (arith, c.length-end.ensures)) c.move_first.ensures,
-      omega (arith, left, one_fewer g.lists (omega (arith, c.length-end.ensures)) c.move_first.ensures),
+    let (g, left) = c.loop.invariant in
+    let most = rw (c.new.ensures.words, c.new.ensures.head) at c.length-end.ensures in (
+      merge_turn g (omega (arith, most)) c.move_first.ensures,
+      omega (arith, left, one_fewer g.lists (omega (arith, most)) c.move_first.ensures),
     )

@@ -5,11 +5,13 @@ use Rattle.merge.proofs.move_first.Goals as goal
 pub insert-requires : goal.insert-requires
 insert-requires c =
     let (p, some) = c.requires in
+    let height = rw (c.new.ensures.words, c.new.ensures.head) at c.first_height-height.ensures in
     let words = c.remove_at-key.ensures.0 in
-    (a-listed p some words, (low_enough p some c.first_height-height.ensures, slot_free p some words))
+    (a-listed p some words, (low_enough p some height, slot_free p some words))
 
 pub returns : goal.returns
 returns c =
     let (p, some) = c.requires in
+    let height = rw (c.new.ensures.words, c.new.ensures.head) at c.first_height-height.ensures in
     let (words, key) = c.remove_at-key.ensures in
-    moved_is p some words key c.first_height-height.ensures c.insert.ensures
+    moved_is p some words key height c.insert.ensures
