@@ -4,7 +4,7 @@ ghost use Rattle.walk.specs.Standing.{Standing};
 ghost use Rattle.visitor.specs.Visited.{rank_head, RankStands, rank_at, rank_visit};
 
 use crate::Traverse;
-use arena::{Index, Rank, Slot};
+use arena::{Index, List, Rank, Slot};
 use rank_walk::Spot;
 
 // `level` is the number of levels still to come: all of them at the head, none after a walk. `found` stays a flag: the slot and the rank are
@@ -43,7 +43,7 @@ impl IndexVisitor {
             slot: self.current,
             rank: self.rank,
         };
-        let current = rank_walk::reach(w, m, self.list, from, self.level, rank);
+        let current = rank_walk::reach(List::new(w, m, self.list), from, self.level, rank);
         IndexVisitor {
             level: 0,
             current,
@@ -60,7 +60,7 @@ impl Traverse for IndexVisitor {
     ghost visit = { rank_visit };
 
     fn traversed(self, w: &[u32], m: usize) -> IndexVisitor {
-        let n = rank_walk::length(w, m, self.list);
+        let n = rank_walk::length(List::new(w, m, self.list));
         if self.rank.0 <= self.target.0 && self.target.0 <= n {
             self.ended(w, m, self.target, true)
         } else {

@@ -3,7 +3,7 @@ ghost use Rattle.std.specs.Prelude.{◌≡◌};
 ghost use Rattle.visitor.specs.Visited.{key_head, KeyStands, key_at, key_over, key_visit};
 
 use crate::Traverse;
-use arena::{Key, Rank, Slot};
+use arena::{Key, List, Rank, Slot};
 use key_walk::{Visitor, Walked};
 
 // `level` is the number of levels still to come: all of them at the head, none after a walk. `left` is the number of comparisons left; `over`
@@ -75,7 +75,7 @@ impl Traverse for OrdIndexVisitor {
             return self;
         }
         let from = Visitor::at(m, self.current, self.rank, self.left);
-        match key_walk::walk(w, m, self.list, self.target, from, self.level) {
+        match key_walk::walk(List::new(w, m, self.list), self.target, from, self.level) {
             Some(Walked::Found(v)) => self.ended(v, true),
             Some(Walked::Missing(v)) => self.ended(v, false),
             None => self.out(),

@@ -11,11 +11,13 @@ use Rattle.visitor.proofs.index.IndexVisitorTraverse.traversed.Goals as goal
 
 pub returns-then-self-n-clause-visited : goal.returns-then-self-n-clause-visited
 returns-then-self-n-clause-visited c =
-    c.ended.ensures ∙ visit_there c.args.w.now c.args.self c.if-self.true (omega (arith, c.length-n.ensures, c.if-self-n.true))
+    let n = rw (c.new.ensures.nodes) at c.length-n.ensures in
+    c.ended.ensures ∙ visit_there c.args.w.now c.args.self c.if-self.true (omega (arith, n, c.if-self-n.true))
 
 pub returns-else-self-clause-visited : goal.returns-else-self-clause-visited
 returns-else-self-clause-visited c =
     let w = c.args.w.now in
     let v = c.args.self in
-    c.ended-else-self.ensures ∙ ap (λ (i : ℕ). rank_at w v i false) (c.before-else-self.ensures ∙ c.length-n.ensures)
-    ∙ elim c.else-self.either [ inl l ↦ visit_past w v c.requires.before (omega (arith, c.length-n.ensures, l.1)) | inr l ↦ visit_behind w v l ]
+    let n = rw (c.new.ensures.nodes) at c.length-n.ensures in
+    c.ended-else-self.ensures ∙ ap (λ (i : ℕ). rank_at w v i false) (c.before-else-self.ensures ∙ n)
+    ∙ elim c.else-self.either [ inl l ↦ visit_past w v c.requires.before (omega (arith, n, l.1)) | inr l ↦ visit_behind w v l ]

@@ -6,15 +6,15 @@ use Rattle.visitor.proofs.ord_index.OrdIndexVisitorTraverse.traversed.Goals as g
 
 pub returns-in-Some-Found-clause-visited : goal.returns-in-Some-Found-clause-visited
 returns-in-Some-Found-clause-visited c =
-    let z = rw (c.in-Some-Found.is, c.in-Some-Found.field-0-is, c.at-from.ensures) at c.walk.ensures in
+    let z = rw (c.in-Some-Found.is, c.in-Some-Found.field-0-is, c.at-from.ensures, c.new.ensures.words, c.new.ensures.levels, c.new.ensures.head) at c.walk.ensures in
     visit_ends c.args.w.now c.args.self c.if-self.false z c.ended.ensures
 
 pub returns-in-Some-Missing-clause-visited : goal.returns-in-Some-Missing-clause-visited
 returns-in-Some-Missing-clause-visited c =
-    let z = rw (c.in-Some-Missing.is, c.in-Some-Missing.field-0-is, c.at-from.ensures) at c.walk.ensures in
+    let z = rw (c.in-Some-Missing.is, c.in-Some-Missing.field-0-is, c.at-from.ensures, c.new.ensures.words, c.new.ensures.levels, c.new.ensures.head) at c.walk.ensures in
     visit_ends c.args.w.now c.args.self c.if-self.false z c.ended-in-Some-Missing.ensures
 
 pub returns-in-None-clause-visited : goal.returns-in-None-clause-visited
 returns-in-None-clause-visited c =
-    let z = rw (c.in-None.is, c.at-from.ensures) at c.walk.ensures in
+    let z = rw (c.in-None.is, c.at-from.ensures, c.new.ensures.nodes) at c.walk.ensures in
     c.out.ensures ∙ visit_over c.args.w.now c.args.self c.if-self.false z
