@@ -23,6 +23,7 @@ fn first_key(list: List) -> Key
     key_at(list.words, list.levels, first)
 }
 
+// Not one function with `first_key`, told apart by the column: each promises another key, by a clause of its own.
 fn last_key(list: List) -> Key
     requires { 0 < length (nodes_of list) }
     ensures { result ≡ last_key (nodes_of list.entry) }

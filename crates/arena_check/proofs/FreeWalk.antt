@@ -21,9 +21,6 @@ pub record FreeAt (w : List ℕ) (d : Dims) (n s : ℕ) : Type 0 where
   pub to : FreeWhole w d → FreeFrom w d n s
   pub from : FreeFrom w d n s → FreeWhole w d
 
-pub free_walk_start : {w : List ℕ} {d : Dims} → FreeAt w d (free_count w) (first_free_slot w)
-free_walk_start = record { to = λ f. f; from = λ f. f }
-
 module _ {w : List ℕ} {d : Dims} {n s : ℕ} (t : FreeAt w d n s) where
   module _ {m : ℕ} (l : n ≡ suc m) where
     first_free_step : FreeWhole w d → FreeNode w d s × FreeFrom w d m (next_in w d s)

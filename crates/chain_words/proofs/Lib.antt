@@ -1,3 +1,2 @@
-pub mod ChainStores
 pub mod ChainReads
 pub mod ChainDone

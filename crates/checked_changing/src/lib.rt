@@ -9,7 +9,7 @@ ghost use Rattle.answers.specs.Told.{key_told, plain_told};
 ghost use Rattle.answers.specs.Kept.{Kept};
 
 use answers::{Refusal, Searched};
-use arena::{Index, Slot};
+use arena::{Index, List, Slot};
 
 // How many slots are free.
 fn free(w: &[u32]) -> u32
@@ -40,7 +40,7 @@ pub fn remove_key(w: &mut [u32], list: Slot, key: u32) -> Result<u32, Refusal>
     ensures { Kept (remove_key list.0 key) w.old w.new (key_told result) }
 {
     let m = answers::one_list(w, list)?;
-    let Ok(Searched::Found(i, _)) = key_walk::search(w, m, list, key, u32::MAX) else {
+    let Ok(Searched::Found(i, _)) = key_walk::search(List::new(w, m, list), key, u32::MAX) else {
         return Err(Refusal::NoKey);
     };
     Ok(removal::remove_at(w, m, list, i))
@@ -51,7 +51,7 @@ pub fn remove_at(w: &mut [u32], list: Slot, i: Index) -> Result<u32, Refusal>
     ensures { Kept (remove_index list.0 i.0) w.old w.new (key_told result) }
 {
     let m = answers::one_list(w, list)?;
-    if rank_walk::length(w, m, list) <= i.0 {
+    if rank_walk::length(List::new(w, m, list)) <= i.0 {
         return Err(Refusal::PastEnd);
     }
     Ok(removal::remove_at(w, m, list, i))

@@ -8,7 +8,7 @@ ghost use Rattle.answers.specs.Told.{plain_told};
 ghost use Rattle.answers.specs.Kept.{Kept};
 
 use answers::Refusal;
-use arena::{Index, Slot};
+use arena::{Index, List, Slot};
 
 pub fn truncate(w: &mut [u32], list: Slot, n: u32) -> Result<(), Refusal>
     requires { Passes w.old }
@@ -33,10 +33,10 @@ pub fn split_at(w: &mut [u32], from: Slot, to: Slot, i: Index) -> Result<(), Ref
     ensures { Kept (split_at from.0 to.0 i.0) w.old w.new (plain_told result) }
 {
     let m = answers::two_lists(w, from, to)?;
-    if rank_walk::length(w, m, to) != 0 {
+    if rank_walk::length(List::new(w, m, to)) != 0 {
         return Err(Refusal::NotEmpty);
     }
-    if rank_walk::length(w, m, from) < i.0 {
+    if rank_walk::length(List::new(w, m, from)) < i.0 {
         return Err(Refusal::PastEnd);
     }
     split::split_at(w, m, from, to, i);
@@ -48,7 +48,7 @@ pub fn split_key(w: &mut [u32], from: Slot, to: Slot, key: u32) -> Result<(), Re
     ensures { Kept (split_key from.0 to.0 key) w.old w.new (plain_told result) }
 {
     let m = answers::two_lists(w, from, to)?;
-    if rank_walk::length(w, m, to) != 0 {
+    if rank_walk::length(List::new(w, m, to)) != 0 {
         return Err(Refusal::NotEmpty);
     }
     split::split_key(w, m, from, to, key);

@@ -11,7 +11,7 @@ ghost use Rattle.arena.specs.Owners.{Listed, NodeThere, TwoLists};
 ghost use Rattle.split.specs.Splits.{Splits};
 
 use answers::Searched;
-use arena::{Index, Slot};
+use arena::{Index, List, Slot};
 
 // The index or the place; 0 where the allowance is not enough.
 #[unsafe(no_mangle)]
@@ -19,7 +19,7 @@ pub extern "C" fn core_search(w: &[u32], m: usize, list: u32, key: u32, allowanc
     requires { Listed w.now m list }
     ensures { result ≡ (answer_to (decode w.now) (search list key allowance)).place }
 {
-    match key_walk::search(w, m, Slot(list), key, allowance) {
+    match key_walk::search(List::new(w, m, Slot(list)), key, allowance) {
         Ok(Searched::Found(i, _) | Searched::Missing(i, _)) => i.0,
         Err(_) => 0,
     }
@@ -30,7 +30,7 @@ pub extern "C" fn core_read(w: &[u32], m: usize, list: u32, index: u32) -> u32
     requires { Listed w.now m list × (index < length (nodes w.now list)) }
     ensures { result ≡ key_at (nodes w.now list) index }
 {
-    rank_walk::read(w, m, Slot(list), Index(index))
+    rank_walk::read(List::new(w, m, Slot(list)), Index(index))
 }
 
 #[unsafe(no_mangle)]

@@ -2,12 +2,11 @@
 #![tactic(auto)]
 
 ghost use Rattle.std.specs.Prelude.{◌≡◌, ◌*◌, ◌≤◌, ◌<◌, length};
-ghost use Rattle.model.specs.Passes.{nodes};
-ghost use Rattle.arena.specs.Owners.{Listed};
+ghost use Rattle.arena.specs.Held.{nodes_of};
 ghost use Rattle.figures.specs.Figured.{figures_of, quarter, FiguresPromise};
 
 use answers::Refusal;
-use arena::{Index, Slot};
+use arena::{Index, List, Slot};
 
 #[derive(Clone, Copy, PartialEq, Eq, Default)]
 pub struct Figures {
@@ -20,31 +19,30 @@ pub struct Figures {
 }
 
 // The key at index floor(q(n-1)/4) of a list of n keys.
-fn quarter(w: &[u32], m: usize, list: Slot, n: u32, q: u32) -> u32
-    requires { Listed w.now m list.0 × (0 < n) × (n ≡ length (nodes w.now list.0)) × (q ≤ 4) }
-    ensures { result ≡ quarter q (nodes w.now list.0) }
+fn quarter(list: List, n: u32, q: u32) -> u32
+    requires { (0 < n) × (n ≡ length (nodes_of list)) × (q ≤ 4) }
+    ensures { result ≡ quarter q (nodes_of list.entry) }
 {
     let i = (q as u64 * (n as u64 - 1) / 4) as u32;
-    rank_walk::read(w, m, list, Index(i))
+    rank_walk::read(list, Index(i))
 }
 
 // The figures of a list of an arena that passed the check.
-pub fn of(w: &[u32], m: usize, list: Slot) -> Figures
-    requires { Listed w.now m list.0 }
-    ensures value { result ≡ figures_of (nodes w.now list.0) }
+pub fn of(list: List) -> Figures
+    ensures value { result ≡ figures_of (nodes_of list.entry) }
     ensures middle_bound { result.middle ≤ 2 * 4294967295 }
 {
-    let count = rank_walk::length(w, m, list);
+    let count = rank_walk::length(list);
     if count == 0 {
         return Figures::default();
     }
     Figures {
         count,
-        smallest: rank_walk::read(w, m, list, Index(0)),
-        largest: rank_walk::read(w, m, list, Index(count - 1)),
-        lower: quarter(w, m, list, count, 1),
-        middle: middle::middle(w, m, list),
-        upper: quarter(w, m, list, count, 3),
+        smallest: rank_walk::read(list, Index(0)),
+        largest: rank_walk::read(list, Index(count - 1)),
+        lower: quarter(list, count, 1),
+        middle: middle::middle(list),
+        upper: quarter(list, count, 3),
     }
 }
 
@@ -54,5 +52,5 @@ pub fn answer(w: &[u32], list: Slot) -> Result<Figures, Refusal>
 {
     answers::passed(arena_check::check(w))?;
     let m = answers::one_list(w, list)?;
-    Ok(of(w, m, list))
+    Ok(of(List::new(w, m, list)))
 }

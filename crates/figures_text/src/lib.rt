@@ -69,6 +69,8 @@ impl Page<'_> {
     }
 }
 
+// `line` and `last` take a slice and a place, and no page: they are public, and their clause `Put at .. out.old out.new result` may not change.
+
 // The line of a list, in at most 77 bytes: 10 for its number, 66 for its figures, and the newline.
 pub fn line(out: &mut [u8], at: usize, list: u32, f: Figures) -> usize
     requires { (at + 77 ≤ length out.old) × (f.middle ≤ 2 * 4294967295) }

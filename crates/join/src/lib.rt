@@ -28,6 +28,7 @@ fn join_level(w: &mut [u32], m: usize, l: usize, s: Slot, from: Slot, by: u32)
     put_link(w, m, from, l, Link::ABSENT);
 }
 
+// Each operation has this loop of its own: one for all would take the level's step as a closure and promise a chain of words, longer than its three lines.
 // The links where `onto` has n nodes.
 fn join_links(w: &mut [u32], m: usize, onto: Slot, from: Slot, n: u32, path: Path)
     requires joins { Joins w.old m onto.0 from.0 × Leads w.old m onto.0 (length (nodes w.old onto.0)) path }

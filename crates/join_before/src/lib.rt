@@ -29,6 +29,7 @@ fn before_level(w: &mut [u32], m: usize, l: usize, s: Slot, a: Slot, b: Slot, by
     put_link(w, m, b, l, Link::ABSENT);
 }
 
+// Each operation has this loop of its own: one for all would take the level's step as a closure and promise a chain of words, longer than its three lines.
 // The links where b has n nodes.
 fn before_links(w: &mut [u32], m: usize, a: Slot, b: Slot, n: u32, path: Path)
     requires joins { Joins w.old m b.0 a.0 × Leads w.old m b.0 (length (nodes w.old b.0)) path }

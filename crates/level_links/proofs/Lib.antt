@@ -1,4 +1,3 @@
-pub mod LevelStores
 pub mod LinkChanges
 pub mod InsertLinks
 pub mod RemoveLinks

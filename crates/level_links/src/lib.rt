@@ -20,6 +20,7 @@ pub fn at_distance(k: Link, distance: u32) -> Link
     Link { distance, ..k }
 }
 
+// The level, the height, the two slots and `back` stay loose here and below: a struct of them would be built in each loop and taken apart at once.
 // Level l, where a node of height h goes into slot o, with `back` nodes between the precursor s and it.
 fn insert_level(w: &mut [u32], m: usize, l: usize, h: usize, s: Slot, o: Slot, back: u32)
     requires { LevelFits w.old m l s.0 o.0 back }
@@ -53,6 +54,7 @@ fn remove_level(w: &mut [u32], m: usize, l: usize, h: usize, s: Slot, o: Slot, b
     put_link(w, m, o, l, Link::ABSENT);
 }
 
+// Each operation has this loop of its own: one for all would take the level's step as a closure and promise a chain of words, longer than its three lines.
 // Every level, for a key that goes in at a height: into the first free slot o, before index i, to which the path leads.
 pub fn insert_links(
     w: &mut [u32],
@@ -77,6 +79,7 @@ pub fn insert_links(
     }
 }
 
+// Each operation has this loop of its own: one for all would take the level's step as a closure and promise a chain of words, longer than its three lines.
 // Every level, for the node at index i, of height h and in slot o, that goes out.
 pub fn remove_links(w: &mut [u32], m: usize, list: Slot, i: Index, o: Slot, h: usize, path: Path)
     requires node_there { NodeThere w.old m list.0 i.0 × Leads w.old m list.0 i.0 path }

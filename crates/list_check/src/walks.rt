@@ -42,7 +42,8 @@ fn walk_ok(records: Records, a: Slot) -> bool
         last = at;
         at = Slot(records.cell(at, arena::NEXT));
     }
-    at == Slot::NONE && last == Slot(records.cell(a, arena::LAST)) && pending.absent()
+    let named = Slot(records.cell(a, arena::LAST));
+    at == Slot::NONE && last == named && pending.absent()
 }
 
 // Whether the list of head a is right.

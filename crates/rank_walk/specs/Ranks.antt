@@ -8,7 +8,8 @@ use Rattle.arena.specs.Owners.{slot_in, rank_in}
 use Rattle.arena.specs.declared.Slot.{Slot}
 use Rattle.rank_walk.specs.declared.Reached.{Reached}
 
--- "Target 0 ends at the head at once .. Above the length it ends with none": the slot at the rank where the walk ends.
+-- "Target 0 ends at the head at once .. Above the length it ends with none": the slot at the rank where the walk ends. `Maybe` is the option
+-- of the model's walks, `Option` that of the code.
 abbrev pub end_of : ℕ → List Node → Maybe ℕ → Option Slot
 end_of a xs none = None
 end_of a xs (some r) = Some (record { 0 = slot_at a xs r })

@@ -41,7 +41,7 @@ pub fn seek(list: List, i: Index) -> Path
     let mut v = Spot::at_head(list);
     let mut base = arena::base_of(list.levels, list.head);
     let mut stage = list.levels;
-    // No `for`: a turn goes along a stage or down to the next, so that no count of turns stands before.
+    // No `for` over the levels with a function that goes along each: on 255 keys that takes a tenth more instructions.
     while 0 < stage {
         let far = arena::distance_in(list.words, base, stage);
         if !can_follow(far, limit.0 - v.rank.0) {

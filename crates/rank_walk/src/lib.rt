@@ -18,7 +18,7 @@ pub struct Spot {
 }
 
 impl Spot {
-    pub fn at_head(list: List) -> Spot
+    pub(crate) fn at_head(list: List) -> Spot
         ensures { (result.slot.0 ≡ list.entry.head.0) × (result.rank.0 ≡ 0) }
     {
         Spot {

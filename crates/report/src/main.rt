@@ -69,7 +69,7 @@ fn piece<R: Read>(
     Ok(Some(n as u64 + 1))
 }
 
-// Takes piece after piece: the desk at the end of the text, or none if so much was read before it.
+// Takes piece after piece: the desk at the end of the text, or none if the end has not come by MOST.
 fn pieces<R: Read>(
     rt: &HostRuntime,
     words: &mut [u32],
@@ -80,6 +80,7 @@ fn pieces<R: Read>(
 {
     let mut desk = Desk::new();
     let mut spent: u64 = 0;
+    // No `for`: a read counts by its bytes too, and `TookAll` promises that their number stays below 2^64.
     while spent < MOST {
         match piece(rt, words, &mut desk, from, name)? {
             Some(n) => spent += n,

@@ -12,7 +12,7 @@ ghost use Rattle.figures_text.specs.Texts.{Put};
 ghost use Rattle.shift.specs.Reports.{lines_from, AnswerPromise};
 
 use answers::Refusal;
-use arena::Slot;
+use arena::{List, Slot};
 pub use figures::Figures;
 use setup::WrongSizes;
 pub use shift_feed::{Desk, feed, finish};
@@ -44,7 +44,7 @@ fn lines(w: &[u32], m: usize, lists: u32, out: &mut [u8]) -> usize
 {
     let mut at = 0;
     for list in 0..lists {
-        let f = figures::of(w, m, Slot(list));
+        let f = figures::of(List::new(w, m, Slot(list)));
         at = figures_text::line(out, at, list, f);
     }
     at

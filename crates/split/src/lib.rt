@@ -32,6 +32,7 @@ fn split_level(w: &mut [u32], m: usize, l: usize, s: Slot, to: Slot, by: u32)
     put_link(w, m, to, l, moved);
 }
 
+// Each operation has this loop of its own: one for all would take the level's step as a closure and promise a chain of words, longer than its three lines.
 fn split_links(w: &mut [u32], m: usize, from: Slot, to: Slot, i: Index, path: Path)
     requires { Splits w.old m from.0 to.0 i.0 × Leads w.old m from.0 i.0 path }
     ensures { LinksDone w.old (do_split (decode w.old) from.0 to.0 i.0) m w.new }

@@ -3,12 +3,12 @@ use Rattle.checked_changing.proofs.RemoveByKey.{enough, goes_out, removed_words}
 use Rattle.checked_changing.proofs.remove_key.Goals as goal
 
 pub returns-in_default-2 : goal.returns-in_default-2
-returns-in_default-2 c = absurd (enough c.in_ok-m.ensures _ (rw c.in_default.is at c.search.ensures))
+returns-in_default-2 c = absurd (enough c.in_ok-m.ensures _ (rw (c.in_default.is, c.new.ensures.words, c.new.ensures.head) at c.search.ensures))
 
 pub remove_at-requires : goal.remove_at-requires
-remove_at-requires c = goes_out c.in_ok-m.ensures _ (rw (c.in-Ok-Found.is, c.in-Ok-Found.field-0-is) at c.search.ensures)
+remove_at-requires c = goes_out c.in_ok-m.ensures _ (rw (c.in-Ok-Found.is, c.in-Ok-Found.field-0-is, c.new.ensures.words, c.new.ensures.head) at c.search.ensures)
 
 pub returns : goal.returns
 returns c =
     let (words, key) = c.remove_at.ensures in
-    removed_words c.in_ok-m.ensures _ (rw (c.in-Ok-Found.is, c.in-Ok-Found.field-0-is) at c.search.ensures) words key
+    removed_words c.in_ok-m.ensures _ (rw (c.in-Ok-Found.is, c.in-Ok-Found.field-0-is, c.new.ensures.words, c.new.ensures.head) at c.search.ensures) words key

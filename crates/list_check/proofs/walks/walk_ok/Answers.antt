@@ -44,7 +44,7 @@ loop-index-preserved c = record {
 pub returns-then-eq-2 : goal.returns-then-eq-2
 returns-then-eq-2 c = elim c.if-eq.branch [
   | then-eq w ↦
-      walk_decided c.loop-index.invariant.walk (omega arith) (eqb-true _ _ (sym c.eq.ensures ∙ w.if-eq.true)) w.cell-then-eq.ensures
+      walk_decided c.loop-index.invariant.walk (omega arith) (eqb-true _ _ (sym c.eq.ensures ∙ w.if-eq.true)) c.cell-2.ensures
       (eqb-true _ _ (sym w.eq-then-eq.ensures ∙ sym w.value-is ∙ c.if-eq-2.true)) (rw c.loop-index.invariant.records at c.absent.ensures)
   | else-eq w ↦ absurd (both_ways _ (w.value-is ∙ w.if-eq.false) c.if-eq-2.true)
 ]
@@ -52,7 +52,7 @@ returns-then-eq-2 c = elim c.if-eq.branch [
 pub returns-else-eq-2 : goal.returns-else-eq-2
 returns-else-eq-2 c = rw c.if-eq-2.false (elim c.if-eq.branch [
   | then-eq w ↦
-      other_last c.loop-index.invariant.walk (omega arith) w.cell-then-eq.ensures
+      other_last c.loop-index.invariant.walk (omega arith) c.cell-2.ensures
       (eqb-false _ _ (sym w.eq-then-eq.ensures ∙ sym w.value-is ∙ c.if-eq-2.false))
   | else-eq w ↦ list-goes-on c.loop-index.invariant.walk (omega arith) (eqb-false _ _ (sym c.eq.ensures ∙ w.if-eq.false))
 ])
