@@ -29,14 +29,19 @@ pub fn make(d: u32) -> Result<u32, LinkError>
 pub fn raise(d: u32) -> Result<u32, LinkError>
     ensures { told result ≡ raised d }
 {
-    make(d)?.checked_add(1).ok_or(LinkError::Overflow)
+    match d {
+        0 => Err(LinkError::Invalid),
+        u32::MAX => Err(LinkError::Overflow),
+        _ => Ok(d + 1),
+    }
 }
 
 pub fn lower(d: u32) -> Result<u32, LinkError>
     ensures { told result ≡ lowered d }
 {
-    match make(d)? - 1 {
-        0 => Err(LinkError::Underflow),
-        less => Ok(less),
+    match d {
+        0 => Err(LinkError::Invalid),
+        1 => Err(LinkError::Underflow),
+        _ => Ok(d - 1),
     }
 }

@@ -6,8 +6,9 @@ use Rattle.shift.proofs.lines.Goals as goal
 
 pub loop-list-preserved : goal.loop-list-preserved
 loop-list-preserved c =
+    let figures = rw c.new.ensures.nodes at c.of-f.ensures.value in
     one-lined
     (omega (arith, lists_are c.args.w.now))
     c.loop-list.invariant
-    (rw c.of-f.ensures.value at c.line-at.ensures.put)
+    (rw figures at c.line-at.ensures.put)
     c.line-at.ensures.upper_bound
