@@ -6,28 +6,26 @@
 mod arena_of_q;
 mod printing;
 
+ghost use Rattle.std.specs.Prelude.{◌≡◌};
 ghost use Rattle.model.specs.Passes.{Passes};
-ghost use Rattle.arena.specs.Owners.{Listed};
 
-use arena::{Key, Rank, Slot};
+use arena::{Key, List, Rank, Slot};
 use printing::{ByKey, ByRank, Precursors};
 use std::io;
 use visitor::{IndexVisitor, OrdIndexVisitor, Traverse};
 
-const LIST: Slot = Slot(0);
-
-fn levels(w: &[u32]) -> usize
+fn first_list(w: &[u32]) -> List<'_>
     requires { Passes w.now }
-    ensures { Listed w.now result 0 }
+    ensures { (result.words.now ≡ w.now) × (result.head.0 ≡ 0) }
 {
-    arena::header(w, arena::LEVELS_WORD) as usize
+    let levels = arena::header(w, arena::LEVELS_WORD) as usize;
+    List::new(w, levels, Slot(0))
 }
 
-fn by_key(rt: &impl Print, w: &[u32], m: usize, key: Key, allowance: u32) -> io::Result<()>
-    requires { Listed w.now m 0 }
-{
-    let v = OrdIndexVisitor::new(LIST, m, key, allowance);
-    let found = ByKey(key_walk::search(w, m, LIST, key, allowance));
+fn by_key(rt: &impl Print, list: List, key: Key, allowance: u32) -> io::Result<()> {
+    let (w, m) = (list.words, list.levels);
+    let v = OrdIndexVisitor::new(list.head, m, key, allowance);
+    let found = ByKey(key_walk::search(list, key, allowance));
     println!(rt; "search {key}: {found}")?;
     println!(rt; "  given back: {}", ByKey::of(v.traversed(w, m), allowance))?;
     println!(rt; "  lent: {}", ByKey::of(v.lent(w, m), allowance))?;
@@ -35,17 +33,9 @@ fn by_key(rt: &impl Print, w: &[u32], m: usize, key: Key, allowance: u32) -> io:
 }
 
 // A visitor that ran out of comparisons goes on once it is given more.
-fn given_more(
-    rt: &impl Print,
-    w: &[u32],
-    m: usize,
-    key: Key,
-    allowance: u32,
-    more: u32,
-) -> io::Result<()>
-    requires { Listed w.now m 0 }
-{
-    let v = OrdIndexVisitor::new(LIST, m, key, allowance);
+fn given_more(rt: &impl Print, list: List, key: Key, allowance: u32, more: u32) -> io::Result<()> {
+    let (w, m) = (list.words, list.levels);
+    let v = OrdIndexVisitor::new(list.head, m, key, allowance);
     let u = OrdIndexVisitor {
         left: more,
         ..v.lent(w, m)
@@ -53,11 +43,10 @@ fn given_more(
     println!(rt; "  given more: {}", ByKey::of(u.lent(w, m), more))
 }
 
-fn by_rank(rt: &impl Print, w: &[u32], m: usize, target: Rank) -> io::Result<()>
-    requires { Listed w.now m 0 }
-{
-    let v = IndexVisitor::new(LIST, m, target);
-    let r = rank_walk::by_rank(w, m, LIST, target);
+fn by_rank(rt: &impl Print, list: List, target: Rank) -> io::Result<()> {
+    let (w, m) = (list.words, list.levels);
+    let v = IndexVisitor::new(list.head, m, target);
+    let r = rank_walk::by_rank(list, target);
     let end = ByRank(r.ended.map(|s| (s, target)));
     println!(rt; "rank {}: {end}, {}", target.0, Precursors(r.path, m))?;
     println!(rt; "  given back: {}", ByRank::from(v.traversed(w, m)))?;
@@ -65,31 +54,27 @@ fn by_rank(rt: &impl Print, w: &[u32], m: usize, target: Rank) -> io::Result<()>
     println!(rt; "  again: {}", ByRank::from(v.again(w, m)))
 }
 
-fn keys(rt: &impl Print, w: &[u32], m: usize) -> io::Result<()>
-    requires { Listed w.now m 0 }
-{
+fn keys(rt: &impl Print, list: List) -> io::Result<()> {
     for key in [5, 20, 25, 30, 31] {
-        by_key(rt, w, m, key, 100)?;
+        by_key(rt, list, key, 100)?;
     }
-    by_key(rt, w, m, 25, 5)?;
-    by_key(rt, w, m, 25, 4)?;
-    given_more(rt, w, m, 25, 4, 5)
+    by_key(rt, list, 25, 5)?;
+    by_key(rt, list, 25, 4)?;
+    given_more(rt, list, 25, 4, 5)
 }
 
-fn ranks(rt: &impl Print, w: &[u32], m: usize) -> io::Result<()>
-    requires { Listed w.now m 0 }
-{
+fn ranks(rt: &impl Print, list: List) -> io::Result<()> {
     for target in [Rank::HEAD, Rank::FIRST, Rank(3), Rank(4), Rank(5)] {
-        by_rank(rt, w, m, target)?;
+        by_rank(rt, list, target)?;
     }
     Ok(())
 }
 
 fn visit(rt: &impl Print, w: &[u32]) -> io::Result<()> {
     if arena_check::check(w) {
-        let m = levels(w);
-        keys(rt, w, m)?;
-        ranks(rt, w, m)?;
+        let list = first_list(w);
+        keys(rt, list)?;
+        ranks(rt, list)?;
     }
     Ok(())
 }
