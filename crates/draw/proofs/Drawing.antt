@@ -1,5 +1,5 @@
 -- Where the words stand that a picture shows: those of the node at an index, and the link of a precursor. Rests on walk's Standing.
-use Prim.Native.Nat.{ℕ, suc, ◌+◌, ◌≤◌, ◌<◌}
+use Prim.Native.Nat.{ℕ, suc, ◌≤◌, ◌<◌}
 use mathlib.Core.Path.{◌≡◌, refl}
 use mathlib.Core.List.{List}
 use lib.ListN.{length, take}
@@ -28,12 +28,12 @@ pub there : {w : List ℕ} {m a i : ℕ} → Listed w m a → i < length (nodes 
 there g k = record { listed = g; index = k }
 
 module _ {w : List ℕ} {m a i : ℕ} (g : NodeThere w m a i) where
-  module _ {s : ℕ} (e : s ≡ slot_at a (nodes w a) (i + 1)) where
+  module _ {s : ℕ} (e : s ≡ slot_at a (nodes w a) (suc i)) where
     pub its_cell : (c : ℕ) → c < width m → Cell w m s c
-    its_cell = cell_here (at-rank (i + 1) g.listed (omega (arith, g.index)) e)
+    its_cell = cell_here (at-rank (suc i) g.listed (omega (arith, g.index)) e)
 
     pub its_link : {l : ℕ} → l < m → LinkIn w m s l
-    its_link = link_in (at-rank (i + 1) g.listed (omega (arith, g.index)) e)
+    its_link = link_in (at-rank (suc i) g.listed (omega (arith, g.index)) e)
 
 module _ {w : List ℕ} {m a i : ℕ} {p : Path} (g : Listed w m a) (k : i ≤ length (nodes w a)) (t : Leads w m a i p) {l : ℕ} (j : l < m) where
   pub rank-before : rank_in p.ranks l ≤ i

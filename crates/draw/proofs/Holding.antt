@@ -8,6 +8,7 @@ use lib.Dec.{leb}
 use lib.ListN.{length, take, drop}
 use lib.Seq.{get_or-take, length-take-le}
 use native.Mathlib.Omega.{arith}
+use native.Mathlib.Numerals.{unary_clauses}
 use Rattle.model.specs.Nodes.{Node, node, N, slot_at, height_at}
 use Rattle.model.specs.Links.{further, distance, target, link_of}
 use Rattle.model.specs.Closed.{last}
@@ -81,7 +82,7 @@ module _ {w : List ℕ} {m a i : ℕ} {p : Path} (g : Listed w m a) (k : i ≤ l
         past = rw (far, t.before.rank l j) (past-last (suc l) i (nodes w a) k);
       }
 
-pub far_here : {w : List ℕ} {m a i s l : ℕ} → NodeThere w m a i → l < m → s ≡ slot_at a (nodes w a) (i + 1) → (x : Link) → words_of x ≡ link_at m w s l
+pub far_here : {w : List ℕ} {m a i s l : ℕ} → NodeThere w m a i → l < m → s ≡ slot_at a (nodes w a) (suc i) → (x : Link) → words_of x ≡ link_at m w s l
     → suc l ≤ height_at (decode w).levels (nodes w a) (i + 1) → x.distance ≡ distance (suc l) (drop (i + 1) (nodes w a))
 far_here {i = i} g j e x q t =
     far_is {r = i + 1} g.listed.levels
@@ -89,7 +90,7 @@ far_here {i = i} g j e x q t =
       passes = g.listed.passes;
       list = g.listed.list;
       within = omega (arith, g.index);
-      slot_is = e;
+      slot_is = simp unary_clauses e;
       tall = t;
       level = omega (arith, g.listed.levels);
     })

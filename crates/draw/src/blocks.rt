@@ -4,33 +4,24 @@ ghost use Rattle.std.specs.Prelude.{◌≡◌, suc, ◌+◌, ◌-◌, ◌≤◌,
 ghost use Rattle.std.specs.Iterator.{at_most};
 ghost use Rattle.model.specs.Nodes.{slot_at, key_at, height_at};
 ghost use Rattle.model.specs.Links.{distance};
-ghost use Rattle.model.specs.Passes.{Passes, decode, nodes};
+ghost use Rattle.model.specs.Passes.{Passes, decode};
 ghost use Rattle.arena.specs.Decides.{Decides};
-ghost use Rattle.arena.specs.Owners.{Listed, Leads};
+ghost use Rattle.arena.specs.Owners.{Leads};
+ghost use Rattle.arena.specs.Held.{nodes_of};
 ghost use Rattle.draw.specs.Holds.{Holds};
-ghost use Rattle.draw.specs.Once.{Passes-once, Listed-once};
+ghost use Rattle.draw.specs.Once.{passes_prop};
 
-use arena::{Index, Path, Slot};
+use arena::{Index, List, Path, Slot};
 
 // A list is cut into so many blocks at most; what comes behind is counted and not drawn.
 pub const BLOCKS: u32 = 16;
-
-// A list of words that pass.
-#[derive(Clone, Copy)]
-pub struct View<'a> {
-    pub words: &'a [u32],
-    pub levels: usize,
-    pub head: Slot,
-    pub ghost listed: { Listed words.now levels head.0 } by { Listed-once words.now levels head.0 },
-    pub ghost few: { length (nodes words.now head.0) ≤ 65535 },
-}
 
 // The lists of words that pass that are still to come, from list `next` on.
 #[derive(Drop)]
 pub struct Lists<'a> {
     pub words: &'a [u32],
     pub next: u32,
-    pub ghost passes: { Passes words.now } by { Passes-once words.now },
+    pub ghost passes: { Passes words.now } by { passes_prop words.now },
     pub ghost few: { next ≤ 16 },
 }
 
@@ -45,26 +36,52 @@ pub struct Held {
 // The indexes `first` and on, before `past`, of a list: N at most.
 #[derive(Clone, Copy)]
 pub struct Block<'a, const N: u32> {
-    pub list: View<'a>,
+    pub list: List<'a>,
     pub first: u32,
     pub past: u32,
     pub ghost order: { first ≤ past },
-    pub ghost within: { past ≤ length (nodes list.words.now list.head.0) },
+    pub ghost within: { past ≤ length (nodes_of list) },
     pub ghost narrow: { past ≤ first + N },
 }
 
 // The blocks of `room` indexes that are still to come, from index `first` on.
 #[derive(Drop)]
 pub struct Blocks<'a, const N: u32> {
-    list: View<'a>,
+    list: List<'a>,
     room: u32,
     first: u32,
     left: u32,
     ghost narrow: { room ≤ N },
-    ghost within: { first ≤ length (nodes list.words.now list.head.0) },
+    ghost within: { first ≤ length (nodes_of list) },
 }
 
 impl Held {
+    // The link of level l that is held before index i: that of the precursor which the walk to the index notes.
+    pub fn before(list: List, i: u32, path: Path, l: usize) -> Held
+        requires { (i ≤ length (nodes_of list)) × Leads list.words.now list.levels list.head.0 i path × (l < list.levels) }
+        ensures { Holds list.entry.words.now list.entry.head.0 l i result }
+    {
+        let owner = path.slots[l];
+        Held {
+            from: path.ranks[l].0,
+            far: arena::link_at(list.words, list.levels, owner, l).distance,
+        }
+    }
+
+    // The link that is held behind index i, before which this one is.
+    pub fn behind(self, list: List, i: u32, l: usize) -> Held
+        requires { (i < length (nodes_of list)) × (l < list.levels) × Holds list.words.now list.head.0 l i self }
+        ensures { Holds list.entry.words.now list.entry.head.0 l (i + 1) result }
+    {
+        if self.arrives(i) {
+            return Held {
+                from: i + 1,
+                far: distance_at(list, i, l),
+            };
+        }
+        self
+    }
+
     pub fn goes_on(self) -> bool {
         self.far != 0
     }
@@ -78,120 +95,36 @@ impl Held {
     }
 }
 
-impl<'a> View<'a> {
-    // The list of a number, if it is there.
-    fn of(words: &'a [u32], head: Slot) -> Option<View<'a>>
-        requires { Passes words.now }
-        ensures { IfSome result (λ list. (list.words.now ≡ words.now) × (list.head.0 ≡ head.0) × (head.0 < 16)) }
-    {
-        let Ok(levels) = answers::one_list(words, head) else {
-            return None;
-        };
-        Some(View {
-            words,
-            levels,
-            head,
-        })
-    }
+// How many slots there are.
+pub fn slots(list: List) -> u32 {
+    arena::header(list.words, arena::LISTS_WORD) + arena::header(list.words, arena::ROOM_WORD)
+}
 
-    // How many keys it has.
-    pub fn len(self) -> u32
-        ensures { result ≡ length (nodes self.entry.words.now self.entry.head.0) }
-    {
-        rank_walk::length(self.words, self.levels, self.head)
-    }
+// On how many of the levels the node at an index stands.
+pub fn height_at(list: List, i: u32) -> usize
+    requires { i < length (nodes_of list) }
+    ensures { result ≤ list.entry.levels }
+{
+    let s = rank_walk::at(list, Index(i));
+    let h = arena::cell(list.words, list.levels, s, arena::HEIGHT);
+    (h as usize).min(list.levels)
+}
 
-    // How many slots there are.
-    pub fn slots(self) -> u32 {
-        arena::header(self.words, arena::LISTS_WORD) + arena::header(self.words, arena::ROOM_WORD)
-    }
+// How far the link of level l leads from the node at an index.
+fn distance_at(list: List, i: u32, l: usize) -> u32
+    requires { (i < length (nodes_of list)) × (l < list.levels) }
+    ensures { suc l ≤ height_at (decode list.entry.words.now).levels (nodes_of list.entry) (i + 1) →
+        result ≡ distance (suc l) (drop (i + 1) (nodes_of list.entry)) }
+{
+    let s = rank_walk::at(list, Index(i));
+    arena::link_at(list.words, list.levels, s, l).distance
+}
 
-    pub fn slot_at(self, i: u32) -> Slot
-        requires { i < length (nodes self.words.now self.head.0) }
-        ensures { result.0 ≡ slot_at self.entry.head.0 (nodes self.entry.words.now self.entry.head.0) (i + 1) }
-    {
-        rank_walk::at(self.words, self.levels, self.head, Index(i))
-    }
-
-    pub fn key_at(self, i: u32) -> u32
-        requires { i < length (nodes self.words.now self.head.0) }
-        ensures { result ≡ key_at (nodes self.entry.words.now self.entry.head.0) i }
-    {
-        rank_walk::read(self.words, self.levels, self.head, Index(i))
-    }
-
-    // On how many of the levels the node stands.
-    pub fn height_at(self, i: u32) -> usize
-        requires { i < length (nodes self.words.now self.head.0) }
-        ensures { result ≤ self.entry.levels }
-    {
-        let s = self.slot_at(i);
-        let h = arena::cell(self.words, self.levels, s, arena::HEIGHT);
-        (h as usize).min(self.levels)
-    }
-
-    // How far the link of level l leads from the node at an index.
-    fn distance_at(self, i: u32, l: usize) -> u32
-        requires { (i < length (nodes self.words.now self.head.0)) × (l < self.levels) }
-        ensures { suc l ≤ height_at (decode self.entry.words.now).levels (nodes self.entry.words.now self.entry.head.0) (i + 1) →
-            result ≡ distance (suc l) (drop (i + 1) (nodes self.entry.words.now self.entry.head.0)) }
-    {
-        let s = self.slot_at(i);
-        arena::link_at(self.words, self.levels, s, l).distance
-    }
-
-    // The precursors of index i.
-    pub fn path(self, i: u32) -> Path
-        requires { i ≤ length (nodes self.words.now self.head.0) }
-        ensures { Leads self.entry.words.now self.entry.levels self.entry.head.0 i result }
-    {
-        rank_walk::seek(self.words, self.levels, self.head, Index(i))
-    }
-
-    // The link of level l that is held before index i: that of the precursor which the walk to the index notes.
-    pub fn held_before(self, i: u32, path: Path, l: usize) -> Held
-        requires { (i ≤ length (nodes self.words.now self.head.0)) × Leads self.words.now self.levels self.head.0 i path × (l < self.levels) }
-        ensures { Holds self.entry.words.now self.entry.head.0 l i result }
-    {
-        let owner = path.slots[l];
-        Held {
-            from: path.ranks[l].0,
-            far: arena::link_at(self.words, self.levels, owner, l).distance,
-        }
-    }
-
-    // The link that is held behind index i.
-    pub fn held_behind(self, i: u32, l: usize, held: Held) -> Held
-        requires { (i < length (nodes self.words.now self.head.0)) × (l < self.levels) × Holds self.words.now self.head.0 l i held }
-        ensures { Holds self.entry.words.now self.entry.head.0 l (i + 1) result }
-    {
-        if held.arrives(i) {
-            return Held {
-                from: i + 1,
-                far: self.distance_at(i, l),
-            };
-        }
-        held
-    }
-
-    // The blocks that are drawn, of so many indexes each; the last may have fewer.
-    pub fn blocks<const N: u32>(self, room: u32) -> Blocks<'a, N>
-        requires { room ≤ N }
-    {
-        Blocks {
-            list: self,
-            room,
-            first: 0,
-            left: BLOCKS,
-        }
-    }
-
-    // How many keys those blocks leave out.
-    pub fn left_out(self, room: u32) -> u32
-        requires { room ≤ 62 }
-    {
-        self.len().saturating_sub(BLOCKS * room)
-    }
+// How many keys the blocks of so many indexes leave out.
+pub fn left_out(list: List, room: u32) -> u32
+    requires { room ≤ 62 }
+{
+    rank_walk::length(list).saturating_sub(BLOCKS * room)
 }
 
 impl<'a> Lists<'a> {
@@ -201,15 +134,26 @@ impl<'a> Lists<'a> {
     {
         Lists { words, next: 0 }
     }
+
+    // The list of a number, if it is there.
+    fn at(words: &'a [u32], head: Slot) -> Option<List<'a>>
+        requires { Passes words.now }
+        ensures { IfSome result (λ list. (list.words.now ≡ words.now) × (list.head.0 ≡ head.0) × (head.0 < 16)) }
+    {
+        let Ok(levels) = answers::one_list(words, head) else {
+            return None;
+        };
+        Some(List::new(words, levels, head))
+    }
 }
 
 impl<'a> Iterator for Lists<'a> {
-    type Item = View<'a>;
+    type Item = List<'a>;
 
     ghost remaining = { λ s. at_most (16 - s.next) };
 
-    fn next(&mut self) -> Option<View<'a>> {
-        let list = View::of(self.words, Slot(self.next))?;
+    fn next(&mut self) -> Option<List<'a>> {
+        let list = Lists::at(self.words, Slot(self.next))?;
         self.next += 1;
         Some(list)
     }
@@ -222,7 +166,21 @@ impl<'a, const N: u32> Block<'a, N> {
 
     // Whether the list goes on behind it.
     pub fn goes_on(self) -> bool {
-        self.past < self.list.len()
+        self.past < rank_walk::length(self.list)
+    }
+}
+
+impl<'a, const N: u32> Blocks<'a, N> {
+    // The blocks of a list that are drawn, of so many indexes each; the last may have fewer.
+    pub fn of(list: List<'a>, room: u32) -> Blocks<'a, N>
+        requires { room ≤ N }
+    {
+        Blocks {
+            list,
+            room,
+            first: 0,
+            left: BLOCKS,
+        }
     }
 }
 
@@ -234,10 +192,11 @@ impl<'a, const N: u32> Iterator for Blocks<'a, N> {
     fn next(&mut self) -> Option<Block<'a, N>> {
         let list = self.list;
         let first = self.first;
-        if self.left == 0 || first == list.len() {
+        let n = rank_walk::length(list);
+        if self.left == 0 || first == n {
             return None;
         }
-        let past = first.saturating_add(self.room).min(list.len());
+        let past = first.saturating_add(self.room).min(n);
         self.first = past;
         self.left -= 1;
         Some(Block { list, first, past })

@@ -1,13 +1,12 @@
 // A block of a list as SVG: a node as a box as high as its levels, with its key, and below it index and slot; each link as an arrow
 // with its distance. A link that leaves a block ends at its edge without a head, and comes from the edge of the next.
-ghost use Rattle.std.specs.Prelude.{◌+◌, ◌≤◌, ◌<◌, length};
-ghost use Rattle.model.specs.Passes.{nodes};
+ghost use Rattle.std.specs.Prelude.{◌+◌, ◌≤◌, ◌<◌};
 ghost use Rattle.arena.specs.Owners.{Leads};
 ghost use Rattle.draw.specs.Holds.{Holds};
 
-use super::blocks::{Block, Held};
+use super::blocks::{Block, Held, height_at};
 use super::svg;
-use arena::Path;
+use arena::{Index, Path};
 
 // The nodes of a block, at most.
 pub const ROOM: u32 = 10;
@@ -40,7 +39,7 @@ fn level(out: &impl Print, b: Part<'_>, l: usize, held: Held)
     svg::name(out, row, format_args!("level {l}"));
     let mut before = held;
     for i in b.first..b.past {
-        let behind = b.list.held_behind(i, l, before);
+        let behind = before.behind(b.list, i, l);
         link(out, b, before, before.arrives(i), i, row);
         before = behind;
     }
@@ -54,7 +53,7 @@ fn levels(out: &impl Print, b: Part<'_>, path: Path)
     requires { Leads b.list.words.now b.list.levels b.list.head.0 b.first path }
 {
     for l in (0..b.list.levels).rev() {
-        level(out, b, l, b.list.held_before(b.first, path, l));
+        level(out, b, l, Held::before(b.list, b.first, path, l));
     }
 }
 
@@ -63,12 +62,12 @@ fn node(out: &impl Print, b: Part<'_>, i: u32)
     requires { (b.first ≤ i) × (i < b.past) }
 {
     let keys = b.list.levels as u32;
-    let top = (b.list.levels - b.list.height_at(i)) as u32;
+    let top = (b.list.levels - height_at(b.list, i)) as u32;
     let c = column(b, i + 1);
     svg::tower(out, c, top, keys);
-    svg::label(out, c, keys, b.list.key_at(i));
+    svg::label(out, c, keys, rank_walk::read(b.list, Index(i)));
     svg::label(out, c, keys + 1, i);
-    svg::label(out, c, keys + 2, b.list.slot_at(i).0);
+    svg::label(out, c, keys + 2, rank_walk::at(b.list, Index(i)).0);
 }
 
 // The links of the row of keys: from each node to the next.
@@ -93,7 +92,7 @@ pub fn block(out: &impl Print, b: Part<'_>, y: u32) {
     for i in b.first..b.past {
         node(out, b, i);
     }
-    levels(out, b, b.list.path(b.first));
+    levels(out, b, rank_walk::seek(b.list, Index(b.first)));
     next(out, b, keys);
     svg::name(out, keys, "next");
     svg::name(out, keys + 1, "index");

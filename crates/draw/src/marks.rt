@@ -1,7 +1,7 @@
 // What both forms print: counts in words.
 ghost use Rattle.model.specs.Passes.{Passes};
 
-use super::blocks::View;
+use arena::List;
 use std::fmt;
 
 // `n thing`, or `n things`; `no things` if there are none.
@@ -10,7 +10,7 @@ pub struct Counted<'a>(pub u32, pub &'a str);
 
 // `list 0: 4 keys`.
 #[derive(Clone, Copy)]
-pub struct Heading<'a>(pub View<'a>);
+pub struct Heading<'a>(pub List<'a>);
 
 // How many keys are left out.
 #[derive(Clone, Copy)]
@@ -49,7 +49,7 @@ impl fmt::Display for Heading<'_> {
     fn fmt<W: fmt::Write>(&self, f: &mut fmt::Formatter<W>) -> fmt::Result {
         let list = self.0;
         let head = list.head.0;
-        let keys = Counted(list.len(), "key");
+        let keys = Counted(rank_walk::length(list), "key");
         write!(f, "list {head}: {keys}")
     }
 }

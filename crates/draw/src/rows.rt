@@ -1,14 +1,15 @@
 // An arena as text: each list in blocks of at most 80 columns, a row for each level with the distance of each link, the row of next, and below
 // them the indexes and the slots. A link that leaves a block ends in dots, and begins with dots where it comes into the next.
 ghost use Rattle.std.specs.Prelude.{◌≡◌, ◌≤◌, ◌<◌, length};
-ghost use Rattle.model.specs.Passes.{Passes, nodes};
+ghost use Rattle.model.specs.Passes.{Passes};
 ghost use Rattle.arena.specs.Owners.{Leads};
+ghost use Rattle.arena.specs.Held.{nodes_of};
 ghost use Rattle.draw.specs.Holds.{Holds};
 
-use super::blocks::{Block, Held, Lists, View};
+use super::blocks::{Block, Blocks, Held, Lists, left_out, slots};
 use super::cells::{Row, Widths, digits};
 use super::marks::{Free, Heading, LeftOut};
-use arena::Path;
+use arena::{Index, List, Path};
 
 // What is left of 80 columns for the nodes; a row's name, the head and its end take the others.
 const ROOM: u32 = 62;
@@ -43,14 +44,9 @@ fn level(out: &impl Print, b: Part<'_>, d: Widths, l: usize, held: Held)
     row.lead(b.at_head(), held.goes_on());
     let mut before = held;
     for i in b.first..b.past {
-        let behind = b.list.held_behind(i, l, before);
-        level_cell(
-            &mut row,
-            before.arrives(i),
-            before,
-            behind,
-            b.list.key_at(i),
-        );
+        let behind = before.behind(b.list, i, l);
+        let key = rank_walk::read(b.list, Index(i));
+        level_cell(&mut row, before.arrives(i), before, behind, key);
         before = behind;
     }
     row.end(out, before.goes_on());
@@ -61,7 +57,7 @@ fn levels(out: &impl Print, b: Part<'_>, d: Widths, path: Path)
     requires { Leads b.list.words.now b.list.levels b.list.head.0 b.first path }
 {
     for l in (0..b.list.levels).rev() {
-        level(out, b, d, l, b.list.held_before(b.first, path, l));
+        level(out, b, d, l, Held::before(b.list, b.first, path, l));
     }
 }
 
@@ -82,13 +78,17 @@ fn foot_lead(b: Part<'_>, d: Widths, foot: Foot) -> Row {
     row
 }
 
+#[tactic(auto, using(crate::proofs::Drawing::few_keys))]
 fn foot_cell(row: &mut Row, b: Part<'_>, foot: Foot, i: u32)
-    requires { i < length (nodes b.list.words.now b.list.head.0) }
+    requires { i < length (nodes_of b.list) }
 {
     match foot {
         Foot::Next => {
             row.step();
-            row.label(b.list.key_at(i), i + 1 < b.list.len());
+            row.label(
+                rank_walk::read(b.list, Index(i)),
+                i + 1 < rank_walk::length(b.list),
+            );
         }
         Foot::Indexes => {
             row.gap();
@@ -96,7 +96,7 @@ fn foot_cell(row: &mut Row, b: Part<'_>, foot: Foot, i: u32)
         }
         Foot::Slots => {
             row.gap();
-            row.label(b.list.slot_at(i).0, false);
+            row.label(rank_walk::at(b.list, Index(i)).0, false);
         }
     }
 }
@@ -113,37 +113,37 @@ fn block(out: &impl Print, b: Part<'_>, d: Widths) {
     if !b.at_head() {
         let _ = println!(out);
     }
-    levels(out, b, d, b.list.path(b.first));
+    levels(out, b, d, rank_walk::seek(b.list, Index(b.first)));
     foot_row(out, b, d, Foot::Next);
     foot_row(out, b, d, Foot::Indexes);
     foot_row(out, b, d, Foot::Slots);
 }
 
-fn widest(list: View<'_>) -> Widths
-    requires { 0 < length (nodes list.words.now list.head.0) }
+fn widest(list: List) -> Widths
+    requires { 0 < length (nodes_of list) }
 {
-    let n = list.len();
+    let n = rank_walk::length(list);
     Widths {
         far: digits(n),
-        label: digits(list.key_at(n - 1)).max(digits(list.slots())),
+        label: digits(rank_walk::read(list, Index(n - 1))).max(digits(slots(list))),
     }
 }
 
 // The blocks of a list that has keys, one at least.
-fn cut(out: &impl Print, list: View<'_>, d: Widths) {
+fn cut(out: &impl Print, list: List, d: Widths) {
     let room = ROOM / (d.far + d.label + 4) as u32;
-    for b in list.blocks(room) {
+    for b in Blocks::of(list, room) {
         block(out, b, d);
     }
-    let more = list.left_out(room);
+    let more = left_out(list, room);
     if 0 < more {
         let _ = println!(out; "{}", LeftOut(more));
     }
 }
 
-fn list(out: &impl Print, list: View<'_>) {
+fn list(out: &impl Print, list: List) {
     let _ = println!(out; "{}", Heading(list));
-    if 0 < list.len() {
+    if 0 < rank_walk::length(list) {
         cut(out, list, widest(list));
     }
     let _ = println!(out);

@@ -2,10 +2,11 @@
 ghost use Rattle.std.specs.Prelude.{◌≤◌};
 ghost use Rattle.model.specs.Passes.{Passes};
 
-use super::blocks::{BLOCKS, Lists, View};
+use super::blocks::{BLOCKS, Blocks, Lists, left_out};
 use super::boxes::ROOM;
 use super::marks::{Free, Heading, LeftOut};
 use super::{boxes, svg};
+use arena::List;
 
 // The height of a line of words.
 const WORDS: u32 = 32;
@@ -18,23 +19,23 @@ pub struct Size {
 }
 
 // Of a block.
-fn block_height(list: View<'_>) -> u32
+fn block_height(list: List) -> u32
     ensures { result ≤ 560 }
 {
     svg::ROW * (list.levels as u32 + 3) + 16
 }
 
 // Of the line that says how many keys are left out.
-fn tail_height(list: View<'_>) -> u32
+fn tail_height(list: List) -> u32
     ensures { result ≤ 32 }
 {
-    if 0 < list.left_out(ROOM) { WORDS } else { 0 }
+    if 0 < left_out(list, ROOM) { WORDS } else { 0 }
 }
 
-fn list_size(list: View<'_>) -> Size
+fn list_size(list: List) -> Size
     ensures { (result.columns ≤ 10) × (result.height ≤ 9024) }
 {
-    let n = list.len();
+    let n = rank_walk::length(list);
     let blocks = n.div_ceil(ROOM).min(BLOCKS);
     Size {
         columns: n.min(ROOM),
@@ -58,20 +59,21 @@ fn whole_size(w: &[u32]) -> Size
 }
 
 // The blocks of a list from a height on.
-fn cut(out: &impl Print, list: View<'_>, top: u32)
+#[tactic(auto, using(crate::proofs::Drawing::few_keys))]
+fn cut(out: &impl Print, list: List, top: u32)
     requires { top ≤ 200000 }
 {
     let h = block_height(list);
-    for b in list.blocks(ROOM) {
+    for b in Blocks::of(list, ROOM) {
         boxes::block(out, b, top + b.first / ROOM * h);
     }
-    let more = list.left_out(ROOM);
+    let more = left_out(list, ROOM);
     if 0 < more {
         svg::words(out, top + BLOCKS * h, LeftOut(more));
     }
 }
 
-fn list(out: &impl Print, list: View<'_>, y: u32)
+fn list(out: &impl Print, list: List, y: u32)
     requires { y ≤ 150000 }
 {
     svg::words(out, y, Heading(list));

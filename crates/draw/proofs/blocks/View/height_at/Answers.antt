@@ -1,8 +1,0 @@
--- `draw::blocks::View::height_at` meets its contract: the node has a height.
-use native.Mathlib.Omega.{arith}
-use Rattle.draw.proofs.Drawing.{there, its_cell}
-use Rattle.draw.proofs.blocks.View.height_at.Goals as goal
-
-pub cell-h-requires : goal.cell-h-requires
-cell-h-requires c =
-    its_cell (there c.args.self.listed c.requires) c.slot_at-s.ensures 1 (omega arith)
