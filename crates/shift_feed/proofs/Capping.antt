@@ -7,8 +7,8 @@ use lib.Dec.{eqb}
 use native.Mathlib.Omega.{arith}
 use Rattle.model.specs.Slices.{Holds, reply, held}
 use Rattle.model.proofs.Tests.{test, hit, miss}
-use Rattle.shift_line.specs.declared.Line.{Line}
-use Rattle.shift_line.specs.declared.Line.TheVariants.{Nothing, ListDigits, Space, KeyDigits, Spoilt}
+use Rattle.shift_line.specs.declared.Part.{Part}
+use Rattle.shift_line.specs.declared.Part.TheVariants.{Nothing, ListDigits, Space, KeyDigits, Spoilt}
 use Rattle.std.specs.Prelude.{Option, Some, None}
 use Rattle.shift_line.specs.declared.Reading.{Reading}
 use Rattle.shift_line.specs.Reads.{blank, stepped, entry_of}
@@ -75,13 +75,13 @@ fed-stable (b ∷ bs) s =
     ∙ fed-stable bs (fed_byte s b)
 
 pub ended-stable : Stable ended
-ended-stable s = by s.line
+ended-stable s = by s.line.part
   where
-    by : (line : Line) → cap (ended_in line (cap s)) ≡ cap (ended_in line s)
+    by : (p : Part) → cap (ended_in p (cap s)) ≡ cap (ended_in p s)
     by Nothing = fed-stable [] s
-    by (ListDigits n) = end-stable s
-    by (Space l) = end-stable s
-    by (KeyDigits l n) = end-stable s
+    by ListDigits = end-stable s
+    by Space = end-stable s
+    by KeyDigits = end-stable s
     by Spoilt = end-stable s
 
 -- ---- one call after the other ----

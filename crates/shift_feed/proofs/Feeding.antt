@@ -10,10 +10,11 @@ use lib.ListN.{length, take, get_or}
 use lib.Seq.{take-suc, take_all}
 use borrow.Author.Tests.{eq-eqb, ne_eqb}
 use native.Mathlib.Omega.{arith}
-use Rattle.shift_line.specs.declared.Line.TheVariants.{Nothing, ListDigits, Space, KeyDigits, Spoilt}
-use Rattle.std.specs.Prelude.{Option, Some, None}
+use Rattle.shift_line.specs.declared.Part.{Part}
+use Rattle.shift_line.specs.declared.Part.TheVariants.{Nothing, ListDigits, Space, KeyDigits, Spoilt}
 use Rattle.shift_line.specs.declared.Line.{Line}
 use Rattle.model.specs.Slices.{Holds, reply}
+use Rattle.std.specs.Prelude.{Option, Some, None}
 use Rattle.shift_line.specs.declared.Reading.{Reading}
 use Rattle.shift_line.specs.Lines.{begun, lines_of, parsed}
 use Rattle.shift_line.specs.Reads.{blank, stepped, read}
@@ -68,25 +69,25 @@ other-fed {d} b w n h = rw (ne_eqb b 10 n) (record {
 })
 
 -- ---- the end of the text ----
-pub ended-blank : {d : Desk} (w : List ℕ) → d.line ≡ Nothing → d.skipped ≤ 18446744073709551615 → Goes ended d w w d
+pub ended-blank : {d : Desk} (w : List ℕ) → d.line.part ≡ Nothing → d.skipped ≤ 18446744073709551615 → Goes ended d w w d
 ended-blank {d} w e h = record {
   goes = λ x k.
-      let z : ended (midway x d) ≡ midway x d = ap (λ line. ended_in line (midway x d)) e in
+      let z : ended (midway x d) ≡ midway x d = ap (λ p. ended_in p (midway x d)) e in
       (subst (Holds w) (ap (λ m. m.shift.held) (sym z)) k, ((nothing-fed w h).goes x k).1 ∙ ap desk_of (sym z));
 }
 
 -- the end of a text ends a line that was begun
-ended-begun : (line : Line) (s : Midway) → line ≢ Nothing → ended_in line s ≡ end_line s
+ended-begun : (p : Part) (s : Midway) → p ≢ Nothing → ended_in p s ≡ end_line s
 ended-begun Nothing s n = absurd (n refl)
-ended-begun (ListDigits m) s n = refl
-ended-begun (Space l) s n = refl
-ended-begun (KeyDigits l m) s n = refl
+ended-begun ListDigits s n = refl
+ended-begun Space s n = refl
+ended-begun KeyDigits s n = refl
 ended-begun Spoilt s n = refl
 
-pub ended-taken : {d r : Desk} {w u : List ℕ} → d.line ≢ Nothing → Goes end_line d w u r → Goes ended d w u r
+pub ended-taken : {d r : Desk} {w u : List ℕ} → d.line.part ≢ Nothing → Goes end_line d w u r → Goes ended d w u r
 ended-taken {d} {r} {w} {u} o p = record {
   goes = λ x k.
-      let z : ended (midway x d) ≡ end_line (midway x d) = ended-begun d.line (midway x d) o in
+      let z : ended (midway x d) ≡ end_line (midway x d) = ended-begun d.line.part (midway x d) o in
       let (a, e) = p.goes x k in
       (subst (Holds u) (ap (λ m. m.shift.held) (sym z)) a, e ∙ ap desk_of (sym z));
 }
@@ -123,7 +124,7 @@ line_taken s bs = ap (λ e. record { shift = taken s e; line = blank }) (line_pa
 pub lines_taken : (s : Shift) (bs text : List ℕ) → NoEnd bs → (ended (fed (mid_line s bs) text)).shift ≡ taken_all s (lines_of (bs ++ text))
 lines_taken s [] [] n = refl
 lines_taken s (b ∷ bs) [] n =
-    ap (λ m. m.shift) (ended-begun (read blank (b ∷ bs)) (mid_line s (b ∷ bs)) (begun-line blank b bs) ∙ line_taken s (b ∷ bs))
+    ap (λ m. m.shift) (ended-begun (read blank (b ∷ bs)).part (mid_line s (b ∷ bs)) (begun-line blank b bs) ∙ line_taken s (b ∷ bs))
     ∙ ap (taken_all s) (sym (ap lines_of (append-nil (b ∷ bs)) ∙ last_line b bs n))
 lines_taken s bs (b ∷ text) n = by (λ s2. lines_taken s2 [] text tt) (λ m. lines_taken s (bs ++ b ∷ []) text m) (same? b 10)
   where

@@ -10,43 +10,43 @@ use Rattle.model.specs.Passes.{decode, Passes}
 use Rattle.model.specs.Slices.{Held, broken, whole, Holds}
 use Rattle.model.proofs.Slices.{broken_held, whole-held, words_held}
 use Rattle.model.proofs.Unique.{either_way}
-use Rattle.shift_line.specs.declared.Line.{Line}
-use Rattle.shift_line.specs.declared.Line.TheVariants.{Nothing, ListDigits, Space, KeyDigits, Spoilt}
+use Rattle.shift_line.specs.declared.Part.{Part}
+use Rattle.shift_line.specs.declared.Part.TheVariants.{Nothing, ListDigits, Space, KeyDigits, Spoilt}
 use Rattle.shift_feed.specs.declared.Desk.{Desk}
 use Rattle.shift_feed.specs.Feeds.{Midway, midway, Goes}
 
 -- ---- a desk as numbers, and back ----
-abbrev line_numbers : Line → List ℕ
-line_numbers Nothing = 0 ∷ 0 ∷ 0 ∷ []
-line_numbers (ListDigits n) = 1 ∷ n ∷ 0 ∷ []
-line_numbers (Space l) = 2 ∷ l ∷ 0 ∷ []
-line_numbers (KeyDigits l n) = 3 ∷ l ∷ n ∷ []
-line_numbers Spoilt = 4 ∷ 0 ∷ 0 ∷ []
+abbrev part_number : Part → ℕ
+part_number Nothing = 0
+part_number ListDigits = 1
+part_number Space = 2
+part_number KeyDigits = 3
+part_number Spoilt = 4
 
-abbrev line_from : ℕ → ℕ → ℕ → Line
-line_from kind a b = cond (eqb kind 0) Nothing (cond (eqb kind 1) (ListDigits a) (cond (eqb kind 2) (Space a) (cond (eqb kind 3) (KeyDigits a b) Spoilt)))
+abbrev part_of : ℕ → Part
+part_of n = cond (eqb n 0) Nothing (cond (eqb n 1) ListDigits (cond (eqb n 2) Space (cond (eqb n 3) KeyDigits Spoilt)))
 
-line_back : (line : Line) → line_from (get_or (line_numbers line) 0 0) (get_or (line_numbers line) 1 0) (get_or (line_numbers line) 2 0) ≡ line
-line_back Nothing = refl
-line_back (ListDigits n) = refl
-line_back (Space l) = refl
-line_back (KeyDigits l n) = refl
-line_back Spoilt = refl
+part_back : (p : Part) → part_of (part_number p) ≡ p
+part_back Nothing = refl
+part_back ListDigits = refl
+part_back Space = refl
+part_back KeyDigits = refl
+part_back Spoilt = refl
 
 abbrev numbers : Desk → List ℕ
-numbers d = d.skipped ∷ line_numbers d.line
+numbers d = part_number d.line.part ∷ d.line.list ∷ d.line.number ∷ d.skipped ∷ []
 
 abbrev desk_from : List ℕ → Desk
 desk_from ns = record {
-  line = line_from (get_or ns 1 0) (get_or ns 2 0) (get_or ns 3 0);
-  skipped = get_or ns 0 0;
+  line = record { part = part_of (get_or ns 0 0); list = get_or ns 1 0; number = get_or ns 2 0 };
+  skipped = get_or ns 3 0;
 }
 
 same_desk : {r s : Desk} → numbers r ≡ numbers s → r ≡ s
 same_desk {r} {s} e = sym (back r) ∙ ap desk_from e ∙ back s
   where
     back : (d : Desk) → desk_from (numbers d) ≡ d
-    back d = ap (λ line. record { line = line; skipped = d.skipped }) (line_back d.line)
+    back d = ap (λ p. record { line = record { part = p; list = d.line.list; number = d.line.number }; skipped = d.skipped }) (part_back d.line.part)
 
 -- ---- one answer ----
 module _ {f : Midway → Midway} {d r s : Desk} {w u v : List ℕ} (p : Goes f d w u r) (q : Goes f d w v s) where

@@ -2,7 +2,8 @@
 use Rattle.std.specs.Prelude.{ℕ, ◌≡◌, cond, List, [], ◌∷◌, leb, eqb}
 use Rattle.model.specs.Slices.{Held, Holds}
 use Rattle.shift_line.specs.declared.Line.{Line}
-use Rattle.shift_line.specs.declared.Line.TheVariants.{Nothing, ListDigits, Space, KeyDigits, Spoilt}
+use Rattle.shift_line.specs.declared.Part.{Part}
+use Rattle.shift_line.specs.declared.Part.TheVariants.{Nothing, ListDigits, Space, KeyDigits, Spoilt}
 use Rattle.shift_line.specs.Reads.{blank, stepped, entry_of}
 use Rattle.shift_feed.specs.declared.Desk.{Desk}
 use Rattle.shift_feed.specs.Shifts.{Shift, taken}
@@ -24,15 +25,15 @@ fed s [] = s
 fed s (b ∷ bs) = fed (fed_byte s b) bs
 
 -- The text ends: a line that was begun ends with it.
-abbrev pub ended_in : Line → Midway → Midway
+abbrev pub ended_in : Part → Midway → Midway
 ended_in Nothing s = s
-ended_in (ListDigits n) s = end_line s
-ended_in (Space l) s = end_line s
-ended_in (KeyDigits l n) s = end_line s
+ended_in ListDigits s = end_line s
+ended_in Space s = end_line s
+ended_in KeyDigits s = end_line s
 ended_in Spoilt s = end_line s
 
 abbrev pub ended : Midway → Midway
-ended s = ended_in s.line s
+ended s = ended_in s.line.part s
 
 -- A desk before the first byte.
 abbrev pub empty : Desk

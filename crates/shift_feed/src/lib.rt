@@ -8,7 +8,7 @@ ghost use Rattle.answers.specs.Told.{plain_told};
 
 use answers::Refusal;
 use arena::Slot;
-use shift_line::{Line, Reading};
+use shift_line::{Line, Part, Reading};
 
 // What is kept between two pieces: what was read of a line, and how many lines were skipped.
 #[derive(Clone, Copy)]
@@ -90,7 +90,7 @@ pub fn feed(w: &mut [u32], mut desk: Desk, bytes: &[u8]) -> Desk
 pub fn finish(w: &mut [u32], desk: Desk) -> Desk
     ensures { Goes ended desk w.old w.new result }
 {
-    if desk.line == Line::Nothing {
+    if desk.line.part == Part::Nothing {
         return desk;
     }
     let passes = arena_check::check(w);

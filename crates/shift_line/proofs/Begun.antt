@@ -7,43 +7,49 @@ use mathlib.Core.List.{List, [], ◌∷◌}
 use lib.Dec.{eqb}
 use Rattle.std.specs.Prelude.{Option, Some, None}
 use Rattle.digits.specs.Digits.{longer}
+use Rattle.shift_line.specs.declared.Part.{Part}
+use Rattle.shift_line.specs.declared.Part.TheVariants.{Nothing, ListDigits, Space, KeyDigits, Spoilt}
 use Rattle.shift_line.specs.declared.Line.{Line}
-use Rattle.shift_line.specs.declared.Line.TheVariants.{Nothing, ListDigits, Space, KeyDigits, Spoilt}
-use Rattle.shift_line.specs.Reads.{numbered, stepped, read}
+use Rattle.shift_line.specs.Reads.{numbered, digited, stepped_in, stepped, read}
 
-abbrev is_begun : Line → Bool
+abbrev is_begun : Part → Bool
 is_begun Nothing = false
-is_begun (ListDigits n) = true
-is_begun (Space l) = true
-is_begun (KeyDigits l n) = true
+is_begun ListDigits = true
+is_begun Space = true
+is_begun KeyDigits = true
 is_begun Spoilt = true
 
-in_list : (n : Option ℕ) → is_begun (numbered ListDigits n) ≡ true
-in_list (Some n) = refl
-in_list None = refl
+numbered-begun : (part : Part) (list : ℕ) (n : Option ℕ) → is_begun part ≡ true → is_begun (numbered part list n).part ≡ true
+numbered-begun part list (Some n) e = e
+numbered-begun part list None e = refl
 
-in_key : (l : ℕ) (n : Option ℕ) → is_begun (numbered (KeyDigits l) n) ≡ true
-in_key l (Some n) = refl
-in_key l None = refl
-
-spaced : (s : Bool) (n m : ℕ) (b : ℕ) → is_begun (cond s (Space n) (numbered ListDigits (longer m b))) ≡ true
-spaced true n m b = refl
-spaced false n m b = in_list (longer m b)
-
-step_begun : (line : Line) (b : ℕ) → is_begun (stepped line b) ≡ true
+step_begun : (line : Line) (b : ℕ) → is_begun (stepped line b).part ≡ true
 unfolding stepped
-step_begun Nothing b = in_list (longer 0 b)
-step_begun (ListDigits n) b = spaced (eqb b 32) n n b
-step_begun (Space l) b = in_key l (longer 0 b)
-step_begun (KeyDigits l n) b = in_key l (longer n b)
-step_begun Spoilt b = refl
+step_begun line b = by line.part
+  where
+    in_list : is_begun (digited ListDigits line b).part ≡ true
+    in_list = numbered-begun ListDigits line.list (longer line.number b) refl
 
-read-begun : (line : Line) (b : ℕ) (bs : List ℕ) → is_begun (read line (b ∷ bs)) ≡ true
+    in_key_lem : is_begun (digited KeyDigits line b).part ≡ true
+    in_key_lem = numbered-begun KeyDigits line.list (longer line.number b) refl
+
+    spaced : (s : Bool) → is_begun (cond s (record { part = Space; list = line.number; number = 0 }) (digited ListDigits line b)).part ≡ true
+    spaced true = refl
+    spaced false = in_list
+
+    by : (p : Part) → is_begun (stepped_in p line b).part ≡ true
+    by Nothing = in_list
+    by ListDigits = spaced (eqb b 32)
+    by Space = in_key_lem
+    by KeyDigits = in_key_lem
+    by Spoilt = refl
+
+read-begun : (line : Line) (b : ℕ) (bs : List ℕ) → is_begun (read line (b ∷ bs)).part ≡ true
 read-begun line b [] = step_begun line b
 read-begun line b (c ∷ bs) = read-begun (stepped line b) c bs
 
-not_begun : (line : Line) → is_begun line ≡ true → line ≢ Nothing
-not_begun line e n = false≢true (sym (ap is_begun n) ∙ e)
+not_begun : (p : Part) → is_begun p ≡ true → p ≢ Nothing
+not_begun p e n = false≢true (sym (ap is_begun n) ∙ e)
 
-pub begun : (line : Line) (b : ℕ) (bs : List ℕ) → read line (b ∷ bs) ≢ Nothing
+pub begun : (line : Line) (b : ℕ) (bs : List ℕ) → (read line (b ∷ bs)).part ≢ Nothing
 begun line b bs = not_begun _ (read-begun line b bs)

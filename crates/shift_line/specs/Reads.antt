@@ -1,37 +1,47 @@
 -- A line as it is read byte by byte. Not to be believed: proofs/Parsing shows that a line so read is what `parsed` says. Rests on digits' Digits.
 use Rattle.std.specs.Prelude.{ℕ, cond, List, [], ◌∷◌, eqb, Option, Some, None}
+use Rattle.shift_line.specs.declared.Part.{Part}
+use Rattle.shift_line.specs.declared.Part.TheVariants.{Nothing, ListDigits, Space, KeyDigits, Spoilt}
 use Rattle.shift_line.specs.declared.Line.{Line}
-use Rattle.shift_line.specs.declared.Line.TheVariants.{Nothing, ListDigits, Space, KeyDigits, Spoilt}
 use Rattle.shift_line.specs.declared.Reading.{Reading}
 use Rattle.digits.specs.Digits.{longer}
 
 abbrev pub blank : Line
-blank = Nothing
+blank = record { part = Nothing; list = 0; number = 0 }
 
 abbrev pub spoilt : Line
-spoilt = Spoilt
+spoilt = record { part = Spoilt; list = 0; number = 0 }
 
--- The line with the number that is being read, if there is one.
-abbrev pub numbered : (ℕ → Line) → Option ℕ → Line
-numbered to (Some n) = to n
-numbered to None = spoilt
+-- One digit more of the number that is being read.
+abbrev pub numbered : Part → ℕ → Option ℕ → Line
+numbered part list (Some n) = record { part = part; list = list; number = n }
+numbered part list None = spoilt
+
+abbrev pub digited : Part → Line → ℕ → Line
+digited part line b = numbered part line.list (longer line.number b)
+
+abbrev pub stepped_in : Part → Line → ℕ → Line
+stepped_in Nothing line b = digited ListDigits line b
+stepped_in ListDigits line b = cond (eqb b 32) (record { part = Space; list = line.number; number = 0 }) (digited ListDigits line b)
+stepped_in Space line b = digited KeyDigits line b
+stepped_in KeyDigits line b = digited KeyDigits line b
+stepped_in Spoilt line b = spoilt
 
 -- The line with one byte more, and with more bytes.
 unfoldable pub stepped : Line → ℕ → Line
-stepped Nothing b = numbered ListDigits (longer 0 b)
-stepped (ListDigits n) b = cond (eqb b 32) (Space n) (numbered ListDigits (longer n b))
-stepped (Space l) b = numbered (KeyDigits l) (longer 0 b)
-stepped (KeyDigits l n) b = numbered (KeyDigits l) (longer n b)
-stepped Spoilt b = spoilt
+stepped line b = stepped_in line.part line b
 
 abbrev pub read : Line → List ℕ → Line
 read line [] = line
 read line (b ∷ bs) = read (stepped line b) bs
 
+abbrev pub entry_in : Part → Line → Option Reading
+entry_in Nothing line = None
+entry_in ListDigits line = None
+entry_in Space line = None
+entry_in KeyDigits line = Some (record { list = line.list; key = line.number })
+entry_in Spoilt line = None
+
 -- What the line says, if it ends here.
 unfoldable pub entry_of : Line → Option Reading
-entry_of Nothing = None
-entry_of (ListDigits n) = None
-entry_of (Space l) = None
-entry_of (KeyDigits l n) = Some (record { list = l; key = n })
-entry_of Spoilt = None
+entry_of line = entry_in line.part line

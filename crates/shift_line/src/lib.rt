@@ -2,18 +2,28 @@
 #![tactic(auto)]
 
 ghost use Rattle.std.specs.Prelude.{◌≡◌};
-ghost use Rattle.shift_line.specs.Reads.{blank, stepped, entry_of};
+ghost use Rattle.shift_line.specs.Reads.{blank, spoilt, digited, stepped, entry_of};
 
 const SPACE: u8 = b' ';
 
-// What was read of a line: nothing yet, digits of the list, the space behind them, digits of the key; or a byte that no such line has.
+// What was read last of a line: nothing yet, the list's digits, the space, the key's digits; or a byte that no such line has.
 #[derive(Clone, Copy, PartialEq, Eq)]
-pub enum Line {
+pub enum Part {
     Nothing,
-    ListDigits(u32),
-    Space { list: u32 },
-    KeyDigits { list: u32, key: u32 },
+    ListDigits,
+    Space,
+    KeyDigits,
     Spoilt,
+}
+
+// Its numbers stand beside the part: of docs/PROMISES.md's "any desk", an enum with the numbers in its variants would leave out some.
+#[derive(Clone, Copy, PartialEq, Eq)]
+pub struct Line {
+    pub part: Part,
+    // The list, once the space is read.
+    pub list: u32,
+    // The number that is being read.
+    pub number: u32,
 }
 
 // What a line that parses says.
@@ -27,8 +37,35 @@ impl Line {
     pub fn new() -> Line
         ensures { result ≡ blank }
     {
-        Line::Nothing
+        Line {
+            part: Part::Nothing,
+            list: 0,
+            number: 0,
+        }
     }
+
+    fn spoilt() -> Line
+        ensures { result ≡ spoilt }
+    {
+        Line {
+            part: Part::Spoilt,
+            ..Line::new()
+        }
+    }
+}
+
+// One digit more of the number that is being read.
+fn digit(line: Line, b: u8, part: Part) -> Line
+    ensures { result ≡ digited part line b }
+{
+    digits::longer(line.number, b).map_or(
+        Line::spoilt(),
+        |number| Line {
+            part,
+            number,
+            ..line
+        },
+    )
 }
 
 // The line with one byte more.
@@ -36,17 +73,15 @@ impl Line {
 pub fn step(line: Line, b: u8) -> Line
     ensures { result ≡ stepped line b }
 {
-    match line {
-        Line::Nothing => digits::longer(0, b).map_or(Line::Spoilt, Line::ListDigits),
-        Line::ListDigits(list) if b == SPACE => Line::Space { list },
-        Line::ListDigits(list) => digits::longer(list, b).map_or(Line::Spoilt, Line::ListDigits),
-        Line::Space { list } => {
-            digits::longer(0, b).map_or(Line::Spoilt, |key| Line::KeyDigits { list, key })
-        }
-        Line::KeyDigits { list, key } => {
-            digits::longer(key, b).map_or(Line::Spoilt, |key| Line::KeyDigits { list, key })
-        }
-        Line::Spoilt => Line::Spoilt,
+    match line.part {
+        Part::ListDigits if b == SPACE => Line {
+            part: Part::Space,
+            list: line.number,
+            number: 0,
+        },
+        Part::Nothing | Part::ListDigits => digit(line, b, Part::ListDigits),
+        Part::Space | Part::KeyDigits => digit(line, b, Part::KeyDigits),
+        Part::Spoilt => Line::spoilt(),
     }
 }
 
@@ -55,8 +90,11 @@ pub fn step(line: Line, b: u8) -> Line
 pub fn parse(line: Line) -> Option<Reading>
     ensures { result ≡ entry_of line }
 {
-    match line {
-        Line::KeyDigits { list, key } => Some(Reading { list, key }),
+    match line.part {
+        Part::KeyDigits => Some(Reading {
+            list: line.list,
+            key: line.number,
+        }),
         _ => None,
     }
 }
