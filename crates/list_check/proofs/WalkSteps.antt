@@ -1,5 +1,5 @@
 -- The walk along a list, step by step: the list is right exactly when what is left of it is. Rests on specs/Walked.
-use Prim.Native.Nat.{ℕ, suc, ◌+◌, ◌-◌, ◌<◌}
+use Prim.Native.Nat.{ℕ, suc, ◌+◌, ◌-◌, ◌≤◌, ◌<◌}
 use mathlib.Core.Path.{◌≡◌, sym, ◌∙◌}
 use mathlib.Core.Bool.{Bool, true, false}
 use mathlib.Core.List.{List}
@@ -11,17 +11,19 @@ use Rattle.arena.specs.Decides.{Decides}
 use Rattle.arena.proofs.Deciding.{yes, no, say_no}
 use Rattle.link_check.specs.declared.Dims.{Dims}
 use Rattle.link_check.specs.Shape.{count_in, key_in, height_in, next_in, last_in}
-use Rattle.link_check.specs.LevelLinks.{PendingAbsent, filled}
+use Rattle.link_check.specs.LevelLinks.{PendingAbsent, OwnerSlots, filled}
 use Rattle.list_check.specs.Walked.{NodeOk, Walked, WalkOk}
 
 -- it stands at slot s, n nodes left, after key k, slot z and rank r, with the owners' slots os and ranks qs
 pub record WalkAt (w : List ℕ) (d : Dims) (a n s k z r : ℕ) (os qs : List ℕ) : Type 0 where
+  pub few : r + n ≤ d.room
+  pub owners : OwnerSlots d os
   pub to : WalkOk w d a → Walked w d (last_in w d a) n s k z r os qs
   pub from : Walked w d (last_in w d a) n s k z r os qs → WalkOk w d a
 
-pub walk_start : {w : List ℕ} {d : Dims} {a n s : ℕ} {os qs : List ℕ} → n ≡ count_in w d a → s ≡ next_in w d a → os ≡ replicate 16 a → qs ≡ replicate 16 0
+pub walk_start : {w : List ℕ} {d : Dims} {a n s : ℕ} {os qs : List ℕ} → n ≤ d.room → OwnerSlots d os → n ≡ count_in w d a → s ≡ next_in w d a → os ≡ replicate 16 a → qs ≡ replicate 16 0
     → WalkAt w d a n s 0 N 0 os qs
-walk_start i j x y = rw (i, j, x, y) (record { to = λ f. f; from = λ f. f })
+walk_start f owners i j x y = record { few = omega (arith, f); owners = owners; to = rw (i, j, x, y) (λ f. f); from = rw (i, j, x, y) (λ f. f) }
 
 module _ {w : List ℕ} {d : Dims} {a n s k z r : ℕ} {os qs : List ℕ} (t : WalkAt w d a n s k z r os qs) where
   module _ {m : ℕ} (l : n ≡ suc m) {b : Bool} (o : Decides b (NodeOk w d s k (r + 1) os qs)) where
@@ -38,8 +40,13 @@ module _ {w : List ℕ} {d : Dims} {a n s k z r : ℕ} {os qs : List ℕ} (t : W
     one_more f = t.from (rw l (rw add-one at f))
 
     pub walk_next : {h k' s' : ℕ} {os' qs' : List ℕ} → b ≡ true → h ≡ height_in w d s → os' ≡ filled h s os → qs' ≡ filled h (r + 1) qs
-        → k' ≡ key_in w d s → s' ≡ next_in w d s → WalkAt w d a m s' k' s (r + 1) os' qs'
-    walk_next y i g g' x x' = rw (x, x', g, g', i) (record { to = λ f. (first_step f).1; from = λ f. one_more (yes o y, f) })
+        → k' ≡ key_in w d s → s' ≡ next_in w d s → OwnerSlots d os' → WalkAt w d a m s' k' s (r + 1) os' qs'
+    walk_next y i g g' x x' owners = record {
+      few = omega (arith, t.few, l);
+      owners = owners;
+      to = rw (x, x', g, g', i) (λ f. (first_step f).1);
+      from = rw (x, x', g, g', i) (λ f. one_more (yes o y, f));
+    }
 
   pub wrong_node : {b : Bool} → 0 < n → Decides b (NodeOk w d s k (r + 1) os qs) → b ≡ false → Decides false (WalkOk w d a)
   wrong_node l o y = let e : n ≡ suc (n - 1) = omega arith in say_no (λ f. no o y (first_step e o f).0)

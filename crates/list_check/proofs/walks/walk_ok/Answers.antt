@@ -10,7 +10,7 @@ use Rattle.list_check.proofs.walks.walk_ok.Goals as goal
 pub loop-index-init : goal.loop-index-init
 loop-index-init c = record {
   records = c.new-pending.ensures.records;
-  walk = walk_start (omega (arith, c.cell-index-end.ensures)) c.cell.ensures c.new-pending.ensures.slots c.new-pending.ensures.ranks;
+  walk = walk_start (omega (arith, c.requires.a_bound, c.cell-index-end.ensures)) (rw c.new-pending.ensures.records at c.new-pending.result.owners) (omega (arith, c.cell-index-end.ensures)) c.cell.ensures c.new-pending.ensures.slots c.new-pending.ensures.ranks;
 }
 
 pub returns-then-not-node_ok : goal.returns-then-not-node_ok
@@ -38,7 +38,8 @@ pub loop-index-preserved : goal.loop-index-preserved
 loop-index-preserved c = record {
   records = c.fill.ensures.records ∙ c.loop-index.invariant.records;
   walk = walk_next c.loop-index.invariant.walk (omega arith) (rw c.loop-index.invariant.records at c.node_ok.ensures) c.if-not-node_ok.false
-      c.cell-in-loop-index.ensures c.fill.ensures.slots c.fill.ensures.ranks c.key-key.ensures c.cell-in-loop-index-2.ensures;
+      c.cell-in-loop-index.ensures c.fill.ensures.slots c.fill.ensures.ranks c.key-key.ensures c.cell-in-loop-index-2.ensures
+      (rw (c.fill.ensures.records ∙ c.loop-index.invariant.records) at c.fill.new.self.owners);
 }
 
 pub returns-then-eq-2 : goal.returns-then-eq-2
