@@ -4,10 +4,9 @@ use super::arenas::Change::{Full, Header, Link, Lost, Shared, Word};
 use super::arenas::{NONE, PAST};
 use super::telling::{Clause, Line};
 use arena::{COUNT, FIRST_FREE_WORD, FREE_WORD, HEIGHT, KEY, LAST, NEXT};
-use std::io;
 
 // The numbers of free slots and of nodes don't add up to C, but for the exchanged lengths.
-pub fn steps<R: Print>(line: &mut Line<'_, R>) -> io::Result<()> {
+pub fn steps<R: Print>(line: &mut Line<'_, R>) {
     line.begin(Clause::Chain);
     line.tell_each(&[
         ("list 0 says 5 and has 4 nodes", &[Word(0, COUNT, 5)]),
@@ -22,12 +21,12 @@ pub fn steps<R: Print>(line: &mut Line<'_, R>) -> io::Result<()> {
             "list 2, which is empty, begins past the slots",
             &[Word(2, NEXT, PAST)],
         ),
-    ])?;
+    ]);
     through_head(line)
 }
 
 // Head 2 stands last in list 1, where its length 0 is read as a key and its M as a height: keys and links are as these need.
-fn through_head<R: Print>(line: &mut Line<'_, R>) -> io::Result<()> {
+fn through_head<R: Print>(line: &mut Line<'_, R>) {
     line.tell_each(&[(
         "list 1 goes on to head 2",
         &[
@@ -42,7 +41,7 @@ fn through_head<R: Print>(line: &mut Line<'_, R>) -> io::Result<()> {
     )])
 }
 
-pub fn last_nodes<R: Print>(line: &mut Line<'_, R>) -> io::Result<()> {
+pub fn last_nodes<R: Print>(line: &mut Line<'_, R>) {
     line.begin(Clause::LastNode);
     line.tell_each(&[
         (
@@ -55,7 +54,7 @@ pub fn last_nodes<R: Print>(line: &mut Line<'_, R>) -> io::Result<()> {
     ])
 }
 
-pub fn keys<R: Print>(line: &mut Line<'_, R>) -> io::Result<()> {
+pub fn keys<R: Print>(line: &mut Line<'_, R>) {
     line.begin(Clause::Keys);
     line.tell_each(&[
         ("9 in slot 3, after 10", &[Word(3, KEY, 9)]),
@@ -64,7 +63,7 @@ pub fn keys<R: Print>(line: &mut Line<'_, R>) -> io::Result<()> {
     ])
 }
 
-pub fn each_slot<R: Print>(line: &mut Line<'_, R>) -> io::Result<()> {
+pub fn each_slot<R: Print>(line: &mut Line<'_, R>) {
     line.begin(Clause::EachSlot);
     line.tell_each(&[
         ("slot 6 is in lists 0 and 2", &[Shared]),
@@ -72,13 +71,13 @@ pub fn each_slot<R: Print>(line: &mut Line<'_, R>) -> io::Result<()> {
             "slot 6 is in lists 0 and 2, slot 11 in none, so that the counts add up to C",
             &[Shared, Lost],
         ),
-    ])?;
+    ]);
     lost(line)
 }
 
 // A slot that is in no list and not free has no column, so either form will do. Its number is missing: where all chains and counts are right and add
 // up to C no slot can be lost. No record has the forms of both columns, so in the last case that clause breaks with this one.
-fn lost<R: Print>(line: &mut Line<'_, R>) -> io::Result<()> {
+fn lost<R: Print>(line: &mut Line<'_, R>) {
     line.tell_each(&[
         (
             "slot 11 is in no list and not free, in a free node's form",
@@ -95,7 +94,7 @@ fn lost<R: Print>(line: &mut Line<'_, R>) -> io::Result<()> {
     ])
 }
 
-pub fn free_chain<R: Print>(line: &mut Line<'_, R>) -> io::Result<()> {
+pub fn free_chain<R: Print>(line: &mut Line<'_, R>) {
     line.begin(Clause::FreeChain);
     line.tell_each(&[
         ("2 stated, 3 on it", &[Header(FREE_WORD, 2)]),

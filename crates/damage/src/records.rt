@@ -3,9 +3,8 @@ use super::arenas::Change::{Link, Word};
 use super::arenas::{NONE, PAST};
 use super::telling::{Clause, Line};
 use arena::{HEIGHT, KEY, LAST};
-use std::io;
 
-pub fn forms<R: Print>(line: &mut Line<'_, R>) -> io::Result<()> {
+pub fn forms<R: Print>(line: &mut Line<'_, R>) {
     line.begin(Clause::Form);
     line.tell_each(&[
         ("head 0, word 1 is 1 and not M", &[Word(0, HEIGHT, 1)]),
@@ -26,7 +25,7 @@ pub fn forms<R: Print>(line: &mut Line<'_, R>) -> io::Result<()> {
     ])
 }
 
-pub fn links<R: Print>(line: &mut Line<'_, R>) -> io::Result<()> {
+pub fn links<R: Print>(line: &mut Line<'_, R>) {
     line.begin(Clause::Link);
     line.tell_each(&[
         (
@@ -51,11 +50,11 @@ pub fn links<R: Print>(line: &mut Line<'_, R>) -> io::Result<()> {
         ),
         ("head 0, level 1, absent", &[Link(0, 1, NONE, 0)]),
         ("slot 5, level 0, absent", &[Link(5, 0, NONE, 0)]),
-    ])?;
+    ]);
     distances(line)
 }
 
-fn distances<R: Print>(line: &mut Line<'_, R>) -> io::Result<()> {
+fn distances<R: Print>(line: &mut Line<'_, R>) {
     line.tell_each(&[
         ("head 0, level 1, distance 2 for 3", &[Link(0, 1, 8, 2)]),
         ("slot 8, level 0, distance 2 for 1", &[Link(8, 0, 6, 2)]),
@@ -64,12 +63,12 @@ fn distances<R: Print>(line: &mut Line<'_, R>) -> io::Result<()> {
             "slot 5, level 0, distance 4294967295",
             &[Link(5, 0, 8, NONE)],
         ),
-    ])?;
+    ]);
     no_links(line)
 }
 
 // These are to be absent, since no node of such a height follows.
-fn no_links<R: Print>(line: &mut Line<'_, R>) -> io::Result<()> {
+fn no_links<R: Print>(line: &mut Line<'_, R>) {
     line.tell_each(&[
         (
             "slot 8, level 1, to slot 6, of height 1",
@@ -84,7 +83,7 @@ fn no_links<R: Print>(line: &mut Line<'_, R>) -> io::Result<()> {
     ])
 }
 
-pub fn above<R: Print>(line: &mut Line<'_, R>) -> io::Result<()> {
+pub fn above<R: Print>(line: &mut Line<'_, R>) {
     line.begin(Clause::AboveHeight);
     line.tell_each(&[
         ("slot 3, level 0, to slot 8", &[Link(3, 0, 8, 1)]),

@@ -1,6 +1,6 @@
 // A case as a line: its number, the clause of document 01 that is broken, what was broken, and what the check says.
 use super::arenas::{Change, changed};
-use std::{fmt, io};
+use std::fmt;
 
 // The clauses of 'An arena passes the check', in its order.
 #[derive(Clone, Copy)]
@@ -59,19 +59,18 @@ impl<'a, R: Print> Line<'a, R> {
         self.clause = clause;
     }
 
-    pub fn tell(&mut self, what: &str, w: &[u32]) -> io::Result<()> {
+    pub fn tell(&mut self, what: &str, w: &[u32]) {
         let number = self.number;
         let clause = self.clause;
         let answer = if arena_check::check(w) { "yes" } else { "no" };
         self.number = number.wrapping_add(1);
-        println!(self.rt; "{number} {clause}: {what}: {answer}")
+        let _ = println!(self.rt; "{number} {clause}: {what}: {answer}");
     }
 
     // Cases that are the sample with some changes.
-    pub fn tell_each(&mut self, cases: &[(&str, &[Change])]) -> io::Result<()> {
+    pub fn tell_each(&mut self, cases: &[(&str, &[Change])]) {
         for (what, changes) in cases {
-            self.tell(what, &changed(changes))?;
+            self.tell(what, &changed(changes));
         }
-        Ok(())
     }
 }

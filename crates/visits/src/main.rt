@@ -11,7 +11,6 @@ ghost use Rattle.model.specs.Passes.{Passes};
 
 use arena::{Key, List, Rank, Slot};
 use printing::{ByKey, ByRank, Precursors};
-use std::io;
 use visitor::{IndexVisitor, OrdIndexVisitor, Traverse};
 
 fn first_list(w: &[u32]) -> List<'_>
@@ -22,61 +21,59 @@ fn first_list(w: &[u32]) -> List<'_>
     List::new(w, levels, Slot(0))
 }
 
-fn by_key(rt: &impl Print, list: List, key: Key, allowance: u32) -> io::Result<()> {
+fn by_key(rt: &impl Print, list: List, key: Key, allowance: u32) {
     let (w, m) = (list.words, list.levels);
     let v = OrdIndexVisitor::new(list.head, m, key, allowance);
     let found = ByKey(key_walk::search(list, key, allowance));
-    println!(rt; "search {key}: {found}")?;
-    println!(rt; "  given back: {}", ByKey::of(v.traversed(w, m), allowance))?;
-    println!(rt; "  lent: {}", ByKey::of(v.lent(w, m), allowance))?;
-    println!(rt; "  again: {}", ByKey::of(v.again(w, m), allowance))
+    let _ = println!(rt; "search {key}: {found}");
+    let _ = println!(rt; "  given back: {}", ByKey::of(v.traversed(w, m), allowance));
+    let _ = println!(rt; "  lent: {}", ByKey::of(v.lent(w, m), allowance));
+    let _ = println!(rt; "  again: {}", ByKey::of(v.again(w, m), allowance));
 }
 
 // A visitor that ran out of comparisons goes on once it is given more.
-fn given_more(rt: &impl Print, list: List, key: Key, allowance: u32, more: u32) -> io::Result<()> {
+fn given_more(rt: &impl Print, list: List, key: Key, allowance: u32, more: u32) {
     let (w, m) = (list.words, list.levels);
     let v = OrdIndexVisitor::new(list.head, m, key, allowance);
     let u = OrdIndexVisitor {
         left: more,
         ..v.lent(w, m)
     };
-    println!(rt; "  given more: {}", ByKey::of(u.lent(w, m), more))
+    let _ = println!(rt; "  given more: {}", ByKey::of(u.lent(w, m), more));
 }
 
-fn by_rank(rt: &impl Print, list: List, target: Rank) -> io::Result<()> {
+fn by_rank(rt: &impl Print, list: List, target: Rank) {
     let (w, m) = (list.words, list.levels);
     let v = IndexVisitor::new(list.head, m, target);
     let r = rank_walk::by_rank(list, target);
     let end = ByRank(r.ended.map(|s| (s, target)));
-    println!(rt; "rank {}: {end}, {}", target.0, Precursors(r.path, m))?;
-    println!(rt; "  given back: {}", ByRank::from(v.traversed(w, m)))?;
-    println!(rt; "  lent: {}", ByRank::from(v.lent(w, m)))?;
-    println!(rt; "  again: {}", ByRank::from(v.again(w, m)))
+    let _ = println!(rt; "rank {}: {end}, {}", target.0, Precursors(r.path, m));
+    let _ = println!(rt; "  given back: {}", ByRank::from(v.traversed(w, m)));
+    let _ = println!(rt; "  lent: {}", ByRank::from(v.lent(w, m)));
+    let _ = println!(rt; "  again: {}", ByRank::from(v.again(w, m)));
 }
 
-fn keys(rt: &impl Print, list: List) -> io::Result<()> {
+fn keys(rt: &impl Print, list: List) {
     for key in [5, 20, 25, 30, 31] {
-        by_key(rt, list, key, 100)?;
+        by_key(rt, list, key, 100);
     }
-    by_key(rt, list, 25, 5)?;
-    by_key(rt, list, 25, 4)?;
+    by_key(rt, list, 25, 5);
+    by_key(rt, list, 25, 4);
     given_more(rt, list, 25, 4, 5)
 }
 
-fn ranks(rt: &impl Print, list: List) -> io::Result<()> {
+fn ranks(rt: &impl Print, list: List) {
     for target in [Rank::HEAD, Rank::FIRST, Rank(3), Rank(4), Rank(5)] {
-        by_rank(rt, list, target)?;
+        by_rank(rt, list, target);
     }
-    Ok(())
 }
 
-fn visit(rt: &impl Print, w: &[u32]) -> io::Result<()> {
+fn visit(rt: &impl Print, w: &[u32]) {
     if arena_check::check(w) {
         let list = first_list(w);
-        keys(rt, list)?;
-        ranks(rt, list)?;
+        keys(rt, list);
+        ranks(rt, list);
     }
-    Ok(())
 }
 
 fn main(rt: HostRuntime) {
