@@ -1,6 +1,5 @@
 // The visitors of the crate's `index.rs` and `ord_index.rs`: each walk takes its visitor and gives it back, and a thin `traverse` lends the
-// visitor and changes it in place. Nothing else takes a reference to a struct. A walk goes on from where its visitor stands, and leaves it where
-// it can be traversed again.
+// visitor and changes it in place. A walk goes on from where its visitor stands, and leaves it where it can be traversed again.
 #![tactic(auto)]
 
 mod index;

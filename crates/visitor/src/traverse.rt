@@ -7,7 +7,7 @@ pub trait Traverse: Copy {
 
     ghost visit: { List ℕ → Self → Self };
 
-    // No law says that it stands in its list again, but this promise: a law's proof would lie in specs/, which has definitions alone.
+    // No law says that it stands in its list again, but this promise: a law's proof may name no file of proofs/, where what it rests on stands.
     fn traversed(self, w: &[u32], m: usize) -> Self
         requires { stands w.now m self }
         ensures visited { result ≡ visit w.now self }
