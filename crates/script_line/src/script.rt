@@ -1,10 +1,9 @@
 // A script that is read piece by piece: each whole line goes to what runs it.
 ghost use Rattle.std.specs.Prelude.{◌≡◌, ◌≤◌, IfErr};
-ghost use Rattle.script_line.specs.Lines.{count_of};
 ghost use Rattle.script_line.specs.Reads.{blank};
 ghost use Rattle.script_line.specs.Scripts.{fed_byte, fed};
 
-use super::{Line, Whole};
+use super::{Line, Reading};
 use std::io::Read;
 
 // What runs the lines of a script.
@@ -27,7 +26,7 @@ pub struct StillOpen {
 pub struct Script<const N: usize> {
     pub line: Line,
     pub numbers: [u32; N],
-    pub ghost within: { count_of line ≤ N },
+    pub ghost within: { line.count ≤ N },
 }
 
 impl<const N: usize> Script<N> {
@@ -36,10 +35,10 @@ impl<const N: usize> Script<N> {
     {
         let whole = super::finish(self.line, &mut self.numbers);
         self.line = Line::new();
-        match whole {
-            Whole::Item(name, count) => runner.item(name, &self.numbers[..count]),
-            Whole::Remark => (),
-            Whole::Unknown => runner.unknown(),
+        match whole.reading {
+            Reading::Name => runner.item(whole.name, &self.numbers[..whole.count]),
+            Reading::Comment => (),
+            _ => runner.unknown(),
         }
     }
 
@@ -66,7 +65,7 @@ impl<const N: usize> Script<N> {
     pub fn finish<R: Runner>(&mut self, runner: &mut R)
         ensures { self.new.line ≡ blank }
     {
-        if self.line != Line::Nothing {
+        if self.line != Line::new() {
             self.end(runner);
         }
     }
