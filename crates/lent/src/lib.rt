@@ -4,6 +4,37 @@
 ghost use Rattle.std.specs.Prelude.{◌≡◌, ◌≤◌, ◌<◌, ◌↔◌, cond, false, leb, eqb, length, replicate, set, IsSome};
 ghost use Rattle.lent.specs.Fronts.{Relent};
 
+// Lends n words of any slice, each v: an array of fixed size, as in `Lent`, would leave some slices out. Of the slice the first `len` words were lent.
+// The answer is the new length; the old one if the words are more than can be lent.
+pub fn renew(words: &mut [u32], len: usize, n: u32, v: u32) -> usize
+    requires { len ≤ length words.old }
+    ensures upper_bound { result ≤ length words.new }
+    ensures relent { Relent (leb n (length words.old)) (replicate n v) len words.old words.new result }
+{
+    let next = n as usize;
+    if next > words.len() {
+        return len;
+    }
+    words[..next].fill(v);
+    next
+}
+
+// The same for given words: one at least.
+pub fn given(words: &mut [u32], len: usize, numbers: &[u32]) -> usize
+    requires { len ≤ length words.old }
+    ensures upper_bound { result ≤ length words.new }
+    ensures relent { Relent
+        (cond (eqb (length numbers.now) 0) false (leb (length numbers.now) (length words.old)))
+        numbers.now len words.old words.new result }
+{
+    let next = numbers.len();
+    if next == 0 || next > words.len() {
+        return len;
+    }
+    words[..next].copy_from_slice(numbers);
+    next
+}
+
 // Of N words the first `len` are lent.
 #[derive(Drop)]
 pub struct Lent<const N: usize> {
@@ -18,13 +49,8 @@ impl<const N: usize> Lent<N> {
         ensures told { IsSome result ↔ n ≤ N }
         ensures relent { Relent (leb n (length self.old.words)) (replicate n v) self.old.len self.old.words self.new.words self.new.len }
     {
-        let next = n as usize;
-        if next > N {
-            return None;
-        }
-        self.words[..next].fill(v);
-        self.len = next;
-        Some(())
+        self.len = renew(&mut self.words, self.len, n, v);
+        (n as usize <= N).then_some(())
     }
 
     // The same for given words: one at least.
@@ -34,13 +60,8 @@ impl<const N: usize> Lent<N> {
             (cond (eqb (length numbers.now) 0) false (leb (length numbers.now) (length self.old.words)))
             numbers.now self.old.len self.old.words self.new.words self.new.len }
     {
-        let next = numbers.len();
-        if next == 0 || next > N {
-            return None;
-        }
-        self.words[..next].copy_from_slice(numbers);
-        self.len = next;
-        Some(())
+        self.len = given(&mut self.words, self.len, numbers);
+        (1..=N).contains(&numbers.len()).then_some(())
     }
 }
 
