@@ -1,14 +1,22 @@
 -- What one digit makes of a number, by the tests of the code. Rests on Digits.
 use Prim.Native.Nat.{ℕ, ◌+◌, ◌-◌, ◌*◌, ◌≤◌, ◌<◌}
-use mathlib.Core.Bool.{Bool, true, false}
-use mathlib.Core.Path.{◌≡◌, refl, sym}
-use lib.Dec.{leb}
-use borrow.Author.Tests.{le-leb, lt-leb, lt-ltb, le-ltb, leb-true, leb-false}
-use mathlib.Core.Logic.{⊎_elim}
-use native.Mathlib.Nat.{lt_of_not-le}
+use mathlib.Core.Bool.{Bool, true, false, cond}
+use mathlib.Core.Path.{◌≡◌, refl}
+use lib.Dec.{ltb, leb}
+use borrow.Author.Tests.{le-leb, lt-leb, leb-true, leb-false, ltb-false}
 use native.Mathlib.Omega.{arith}
-use Rattle.std.specs.Prelude.{Option, Some, None, SomeIff, ◌⊎◌}
+use Rattle.std.specs.Prelude.{Some, None}
 use Rattle.digits.specs.Digits.{is_digit, longer}
+
+module _ (b : ℕ) where
+  pub digit_from_48 : is_digit b ≡ true → 48 ≤ b × (b ≤ 57)
+  unfolding is_digit
+  digit_from_48 e = from (ltb b 48) (leb b 57) refl refl e
+    where
+      from : (low high : Bool) → ltb b 48 ≡ low → leb b 57 ≡ high → cond low false high ≡ true → 48 ≤ b × (b ≤ 57)
+      from true high l h e = let z : ◌≡◌ {A = ℕ} 0 1 = cc in (omega arith, omega arith)
+      from false true l h e = (ltb-false _ _ l, leb-true _ _ h)
+      from false false l h e = let z : ◌≡◌ {A = ℕ} 0 1 = cc in (omega arith, omega arith)
 
 module _ (n b : ℕ) where
   pub no_digit : is_digit b ≡ false → longer n b ≡ None
@@ -22,19 +30,6 @@ module _ (n b : ℕ) where
   pub one_more : is_digit b ≡ true → n * 10 + (b - 48) ≤ 4294967295 → longer n b ≡ Some (n * 10 + (b - 48))
   unfolding longer
   one_more e h = simp (e, le-leb _ _ h)
-
-  pub outside : (b < 48) ⊎ (57 < b) → None ≡ longer n b
-  unfolding is_digit
-  outside h = sym (no_digit (⊎_elim (λ l. rw (lt-ltb b 48 l) refl) (λ g. rw (le-ltb b 48 (omega arith)) (lt-leb b 57 g)) h))
-
-  pub inside : (48 ≤ b) × (b ≤ 57) → is_digit b ≡ true
-  unfolding is_digit
-  inside h = rw (le-ltb _ _ h.0) (le-leb _ _ h.1)
-
--- the sum as checked_add makes it
-pub sum : (n b : ℕ) (r : Option ℕ) {m d : ℕ} → SomeIff r (m + d < 4294967296) (m + d) → m ≡ n * 10 → d ≡ b - 48 → (48 ≤ b) × (b ≤ 57) → r ≡ longer n b
-sum n b None s e f h = sym (too_big n b (inside n b h) (lt_of_not-le (λ l. s (omega arith))))
-sum n b (Some x) s e f h = let q : x ≡ n * 10 + (b - 48) = omega arith in cc (one_more n b (inside n b h) (omega arith))
 
 -- which of the three it is
 pub data Longer (n b : ℕ) : Type 0 where

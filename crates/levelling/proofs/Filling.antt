@@ -1,31 +1,67 @@
--- A list whose first h are v: what each of its places holds. Rests on NodeByNode's SteppedOver.
-use Prim.Native.Nat.{ℕ, suc, ◌+◌, ◌-◌, ◌≤◌}
-use mathlib.Core.Path.{◌≡◌, ap, ◌∙◌}
-use mathlib.Core.Bool.{cond}
-use mathlib.Core.List.{List, ◌++◌}
+-- The loop of `step_over`: the first l of sixteen are v, the others as before.
+use Prim.Native.Nat.{ℕ, suc, ◌+◌, ◌≤◌, ◌<◌}
+use mathlib.Core.Path.{◌≡◌, refl, ap, ◌∙◌}
+use mathlib.Core.Bool.{Bool, true, false, cond}
+use mathlib.Core.List.{List}
 use lib.Dec.{ltb}
-use lib.ListN.{length, take, drop, get_or, replicate, length-append, length-drop, length-replicate, get_or-append}
-use lib.Seq.{length-take-le}
+use lib.ListN.{length, get_or, set, length-set}
+use lib.Seq.{get_or-set_same, get_or-set_other}
 use native.Mathlib.Omega.{arith}
 use borrow.Author.Tests.{lt-ltb, le-ltb}
-use Rattle.std.proofs.lemmas.List.{get_or-replicate, get_or-drop, get_or-append_right}
-use Rattle.model.proofs.Tests.{hit, miss, test}
+use Rattle.arena.specs.declared.Path.{Path}
+use Rattle.arena.specs.declared.Slot.{Slot}
+use Rattle.arena.specs.declared.Rank.{Rank}
+use Rattle.levelling.specs.NodeByNode.{Full, SteppedOver}
+use Rattle.model.proofs.Tests.{hit, miss, test, same, other, same?}
 
-module _ {A : Type 0} (xs : List A) (v : A) (h : ℕ) {ys : List A} (within : h ≤ length xs) (filled : ys ≡ replicate (length (take h xs)) v) where
-  length-ys : length ys ≡ h
-  length-ys = ap length filled ∙ length-replicate (length (take h xs)) v ∙ length-take-le h xs within
+picked : {A : Type 0} (f : A → ℕ) (b : Bool) (x y : A) → f (cond b x y) ≡ cond b (f x) (f y)
+picked f true x y = refl
+picked f false x y = refl
 
-  pub front_size : length (ys ++ drop h xs) ≡ length xs
-  front_size = omega (arith, length-append ys (drop h xs), length-drop h xs, length-ys)
+module _ {A : Type 0} (d : A) where
+  pub record Filled (xs₀ : List A) (v : A) (l : ℕ) (xs : List A) : Type 0 where
+    pub size : length xs ≡ 16
+    pub is : (j : ℕ) → j < 16 → get_or xs j d ≡ cond (ltb j l) v (get_or xs₀ j d)
 
-  pub front_is : (d : A) (number : A → ℕ) (j : ℕ) → number (get_or (ys ++ drop h xs) j d) ≡ cond (ltb j h) (number v) (number (get_or xs j d))
-  front_is d number j = elim (test (suc j) h) [
-    | hit _ l ↦
-        rw (lt-ltb j h l)
-        (ap number (get_or-append ys (drop h xs) d j (omega (arith, length-ys)) ∙ ap (λ (t : List A). get_or t j d) filled
-        ∙ get_or-replicate (length (take h xs)) j v d (omega (arith, length-take-le h xs within))))
-    | miss _ l ↦
-        let e : h + (j - h) ≡ j = omega arith in
-        rw (le-ltb j h (omega arith))
-        (ap number (get_or-append_right ys (drop h xs) h j d length-ys (omega arith) ∙ get_or-drop h xs (j - h) d ∙ ap (λ (n : ℕ). get_or xs n d) e))
-  ]
+  none_filled : (xs : List A) (v : A) → length xs ≡ 16 → Filled xs v 0 xs
+  none_filled xs v e = record { size = e; is = λ j k. rw (le-ltb j 0 (omega arith)) refl }
+
+  one-filled : {xs₀ : List A} {v : A} {l : ℕ} {xs : List A} → l < 16 → Filled xs₀ v l xs → Filled xs₀ v (l + 1) (set xs l v)
+  one-filled {xs₀} {v} {l} {xs} k g = record {
+    size = length-set xs l v ∙ g.size;
+    is = λ j b. elim (same? j l) [
+      | same e q ↦ rw (q, lt-ltb l (l + 1) (omega arith)) (get_or-set_same xs l v d (omega (arith, g.size)))
+      | other e q ↦ get_or-set_other xs l j v d q ∙ g.is j b ∙ elim (test (suc j) l) [
+        | hit f p ↦ rw (lt-ltb j l p, lt-ltb j (l + 1) (omega arith)) refl
+        | miss f p ↦ rw (le-ltb j l (omega arith), le-ltb j (l + 1) (omega (arith, q))) refl
+      ]
+    ];
+  }
+
+  all-filled : {xs₀ : List A} {v : A} {l h : ℕ} {xs : List A} → Filled xs₀ v l xs → l ≤ h → h ≤ l → (number : A → ℕ)
+      → (j : ℕ) → j < 16 → number (get_or xs j d) ≡ cond (ltb j h) (number v) (number (get_or xs₀ j d))
+  all-filled {xs₀} {v} {l} {h} {xs} g x y number j k =
+      let e : l ≡ h = omega arith in
+      ap number (g.is j k) ∙ picked number (ltb j l) v (get_or xs₀ j d) ∙ ap (λ (n : ℕ). cond (ltb j n) (number v) (number (get_or xs₀ j d))) e
+
+-- both arrays of a path, where the node's height is h
+pub record BothFilled (ss₀ : List Slot) (rs₀ : List Rank) (s : Slot) (r : Rank) (h : ℕ) (ss : List Slot) (rs : List Rank) (l : ℕ) : Type 0 where
+  pub slots : Filled (record { 0 = 0 }) ss₀ s l ss
+  pub ranks : Filled (record { 0 = 0 }) rs₀ r l rs
+  pub within : l ≤ h
+
+pub both_start : {p : Path} {s : Slot} {r : Rank} {h : ℕ} → Full p → BothFilled p.slots p.ranks s r h p.slots p.ranks 0
+both_start {p} {s} {r} f = record { slots = none_filled _ p.slots s f.slots; ranks = none_filled _ p.ranks r f.ranks; within = omega arith }
+
+pub both_turn : {slots₀ : List Slot} {ranks₀ : List Rank} {s : Slot} {r : Rank} {h : ℕ} {slots : List Slot} {ranks : List Rank} {l : ℕ}
+    → BothFilled slots₀ ranks₀ s r h slots ranks l → h ≤ 16 → l < h → BothFilled slots₀ ranks₀ s r h (set slots l s) (set ranks l r) (l + 1)
+both_turn g hm k = record { slots = one-filled _ (omega arith) g.slots; ranks = one-filled _ (omega arith) g.ranks; within = omega arith }
+
+pub both_end : {p : Path} {s : Slot} {r : Rank} {h : ℕ} {slots : List Slot} {ranks : List Rank} {l : ℕ} → BothFilled p.slots p.ranks s r h slots ranks l → h ≤ l
+    → SteppedOver p s.0 r.0 h (record { slots = slots; ranks = ranks; end = s })
+both_end g k = record {
+  slots = all-filled _ g.slots g.within k (λ (x : Slot). x.0);
+  ranks = all-filled _ g.ranks g.within k (λ (x : Rank). x.0);
+  end = refl;
+  full = record { slots = g.slots.size; ranks = g.ranks.size };
+}

@@ -35,8 +35,11 @@ fn step_over(path: Path, slot: Slot, rank: Rank, h: usize) -> Path
 {
     let mut slots = path.slots;
     let mut ranks = path.ranks;
-    slots[..h].fill(slot);
-    ranks[..h].fill(rank);
+    // No two `fill`s: the edit `lowest_precursor_kept` has to leave out level 0 and nothing else.
+    for l in 0..h {
+        slots[l] = slot;
+        ranks[l] = rank;
+    }
     Path {
         slots,
         ranks,

@@ -80,8 +80,9 @@ pub fn feed(w: &mut [u32], mut desk: Desk, bytes: &[u8]) -> Desk
     ensures { Goes (λ s. fed s bytes.now) desk w.old w.new result }
 {
     let passes = arena_check::check(w);
-    for b in bytes {
-        desk = byte(w, passes, desk, *b);
+    // No `for b in bytes`: the edit `lost_at_a_pieces_edge` has to leave out the first byte and nothing else.
+    for i in 0..bytes.len() {
+        desk = byte(w, passes, desk, bytes[i]);
     }
     desk
 }

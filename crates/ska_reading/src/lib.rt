@@ -11,7 +11,7 @@ use arena::{Index, Slot};
 pub fn search(w: &[u32], list: Slot, key: u32, allowance: u32) -> Result<Searched, SearchError>
     ensures { Promise (search list.0 key allowance) w.now w.now (search_told result) }
 {
-    answers::passed(arena_check::check(w))?;
+    answers::passed(arena_check::check(w))?; // its refusal becomes that of a search
     checked_reading::search(w, list, key, allowance)
 }
 

@@ -2,10 +2,10 @@
 use Rattle.shift_feed.proofs.Feeding.{byte-fed, all-fed}
 use Rattle.shift_feed.proofs.feed.Goals as goal
 
-pub loop-b-preserved : goal.loop-b-preserved
-loop-b-preserved c =
-    (byte-fed _ _ c.loop-b-test.true c.loop-b.invariant.0 c.byte-desk.ensures.goes, c.byte-desk.ensures.check_promise)
+pub loop-i-preserved : goal.loop-i-preserved
+loop-i-preserved c =
+    (byte-fed _ _ c.loop-i-test.true c.loop-i.invariant.0 c.byte-desk.ensures.goes, c.byte-desk.ensures.check_promise)
 
 pub returns : goal.returns
 returns c =
-    all-fed _ _ c.loop-b-test.false c.loop-b.invariant.0
+    all-fed _ _ c.loop-i-test.false c.loop-i.invariant.0

@@ -4,5 +4,5 @@ use Rattle.model.specs.Calls.{CheckPromise}
 use Rattle.shift_feed.specs.Feeds.{fed, Goes}
 use Rattle.shift_feed.proofs.feed.Given as goal
 
-abbrev pub invariant-loop-b : goal.invariant-loop-b
-invariant-loop-b l = Goes (λ s. fed s (take l.b-index l.bytes)) l.initial.desk l.initial.w l.w l.desk × CheckPromise l.w l.passes
+abbrev pub invariant-loop-i : goal.invariant-loop-i
+invariant-loop-i l = Goes (λ s. fed s (take l.i l.bytes)) l.initial.desk l.initial.w l.w l.desk × CheckPromise l.w l.passes
