@@ -1,1 +1,2 @@
+mod InsertRows
 mod RemoveByKey
