@@ -95,6 +95,14 @@ impl Held {
     }
 }
 
+// The end of a block of n indexes at most.
+fn end_of(first: u32, n: u32, count: u32) -> u32
+    requires { first ≤ count }
+    ensures { (first ≤ result) × (result ≤ count) × (result ≤ first + n) }
+{
+    first.saturating_add(n).min(count)
+}
+
 // How many slots there are.
 pub fn slots(list: List) -> u32 {
     arena::header(list.words, arena::LISTS_WORD) + arena::header(list.words, arena::ROOM_WORD)
@@ -196,7 +204,7 @@ impl<'a, const N: u32> Iterator for Blocks<'a, N> {
         if self.left == 0 || first == n {
             return None;
         }
-        let past = first.saturating_add(self.room).min(n);
+        let past = end_of(first, self.room, n);
         self.first = past;
         self.left -= 1;
         Some(Block { list, first, past })
