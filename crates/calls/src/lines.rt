@@ -1,7 +1,8 @@
 // The answer lines. An output that is closed stops no call.
+use arrayvec::ArrayString;
 use numbers::{Numbered, Numbers, Valued};
 use ska::{SearchError, Searched};
-use std::fmt;
+use std::fmt::{self, Write};
 
 pub fn check(out: &impl Print, yes: bool) {
     let _ = println!(out; "{}", numbers::of_check(yes));
@@ -28,22 +29,18 @@ pub fn search(out: &impl Print, a: Result<Searched, SearchError>) {
     let _ = println!(out; "{number} {found} {place} {tally}");
 }
 
-#[derive(Drop)]
-struct Words<'a>(&'a [u32]);
-
-impl fmt::Display for Words<'_> {
-    fn fmt<W: fmt::Write>(&self, f: &mut fmt::Formatter<W>) -> fmt::Result {
-        for (i, word) in self.0.iter().enumerate() {
-            if i > 0 {
-                write!(f, " ")?;
-            }
-            write!(f, "{word}")?;
-        }
-        Ok(())
-    }
-}
-
-// All words on one line.
+// All words on one line, which is written as it grows: a piece that cannot be written stops none behind it.
 pub fn dump(out: &impl Print, words: &[u32]) {
-    let _ = println!(out; "{}", Words(words));
+    let mut piece = ArrayString::<96>::new();
+    for (i, word) in words.iter().enumerate() {
+        if piece.len() > 64 {
+            let _ = print!(out; "{piece}");
+            piece.clear();
+        }
+        if i > 0 {
+            let _ = write!(piece, " ");
+        }
+        let _ = write!(piece, "{word}");
+    }
+    let _ = println!(out; "{piece}");
 }
