@@ -69,13 +69,19 @@ fn piece<R: Read>(
     Ok(Some(n as u64 + 1))
 }
 
-// Takes piece after piece: the desk at the end of the text, or none if the end has not come by MOST.
+// The text has not ended after so many reads and bytes.
+#[derive(Clone, Copy)]
+struct StillOpen {
+    spent: u64,
+}
+
+// Takes piece after piece: the desk at the end of the text, if the end has come by MOST.
 fn pieces<R: Read>(
     rt: &HostRuntime,
     words: &mut [u32],
     from: &mut R,
     name: &str,
-) -> Result<Option<Desk>, Told>
+) -> Result<Result<Desk, StillOpen>, Told>
     ensures { TookAll result words.old words.new }
 {
     let mut desk = Desk::new();
@@ -84,10 +90,10 @@ fn pieces<R: Read>(
     while spent < MOST {
         match piece(rt, words, &mut desk, from, name)? {
             Some(n) => spent += n,
-            None => return Ok(Some(desk)),
+            None => return Ok(Ok(desk)),
         }
     }
-    Ok(None)
+    Ok(Err(StillOpen { spent }))
 }
 
 // The end of the text: the report at the front of the slice, and its length.
@@ -122,7 +128,7 @@ fn print(rt: &HostRuntime, words: &mut [u32], desk: Desk)
 fn report<R: Read>(rt: &HostRuntime, from: &mut R, name: &str) {
     let mut words = [0u32; shift::WORDS];
     let _ = shift::set_up(&mut words);
-    if let Ok(Some(desk)) = pieces(rt, &mut words, from, name) {
+    if let Ok(Ok(desk)) = pieces(rt, &mut words, from, name) {
         print(rt, &mut words, desk);
     }
 }
