@@ -32,6 +32,8 @@ fn last_key(list: List) -> Key
     key_at(list.words, list.levels, last)
 }
 
+// Not inlined it copies the path once more, and an append behind takes more instructions than the crate's.
+#[inline(always)]
 fn end_path(list: List) -> Path
     ensures { Leads list.entry.words.now list.entry.levels list.entry.head.0 (length (nodes_of list.entry)) result }
 {
@@ -39,7 +41,8 @@ fn end_path(list: List) -> Path
     rank_walk::seek(list, Index(n))
 }
 
-// Where b follows a: b is hung behind a.
+// Where b follows a: b is hung behind a. (This and the next have frames of their own, so that a merge does not carry a path's arrays.)
+#[inline(never)]
 fn follow(w: &mut [u32], m: usize, a: Slot, b: Slot)
     requires { Joins w.old m a.0 b.0 }
     ensures { w.new ≡ encode (do_join (decode w.old) a.0 b.0) }
@@ -49,6 +52,7 @@ fn follow(w: &mut [u32], m: usize, a: Slot, b: Slot)
 }
 
 // Where b precedes a: the nodes of b are put before those of a.
+#[inline(never)]
 fn precede(w: &mut [u32], m: usize, a: Slot, b: Slot)
     requires { Joins w.old m b.0 a.0 }
     ensures { w.new ≡ encode (do_join_before (decode w.old) a.0 b.0) }
